@@ -1,19 +1,18 @@
 -- What comes of bringing a log's checkpoint before witnesses, and what was printed before.
-use Rattle.std.proofs.Common.{◌≡◌, ◌⊎◌, ◌++◌, inl, inr, subst, sym, string_bytes, vec_items, List, String, Option, Some, None, Result, Ok, Err}
+use Rattle.std.proofs.Common.{◌≡◌, ◌⊎◌, ◌++◌, ℕ, inl, inr, map, subst, sym, string_bytes, vec_items, List, String, Option, Some, None, Result, Ok, Err}
 use Rattle.std.specs.Global.{Global}
-use Rattle.std.specs.List.{Any}
 use Rattle.tl_hash.specs.Bytes.{Bytes}
 use Rattle.tl_device.specs.Device.{Passage, IsUnwritten}
+use Rattle.tl_fetch.specs.declared.fault.Address.TheVariants as address
 use Rattle.tl_fetch.specs.declared.fault.FetchFault.{FetchFault}
 use Rattle.tl_fetch.specs.declared.fault.FetchFault.TheVariants as fetch
 use Rattle.tl_command.specs.declared.fault.RunFault.TheVariants as run
 use Rattle.tl_tile.specs.declared.resource.Resource.{Resource}
 use Rattle.tl_source.specs.Fulls.{may_answer_front}
 use Rattle.tl_source.specs.Sources.{Origin, any_answers}
-use Rattle.tl_source.specs.Url.{IsNoUrl}
 use Rattle.tl_fetch.specs.declared.feed.command.FeedOptions.{FeedOptions}
 use Rattle.tl_fetch.specs.Command.{IsOriginOf, IsStateFault, may_have, state_fails}
-use Rattle.tl_fetch.specs.FeedCommand.{IsAddressFault, RunsFeedUnder}
+use Rattle.tl_fetch.specs.FeedCommand.{IsAddressFault, IsFirstNoUrl, RunsFeedUnder}
 use Rattle.tl_fetch.specs.Inner.FeedRuns.{FeedsOver}
 use Rattle.tl_fetch.specs.Inner.Naming.{Renames}
 use Rattle.tl_fetch.specs.Faults.{IsNoAccusation}
@@ -74,6 +73,7 @@ no_address policy options fault o none why = inl (why, none)
 
 -- a text among those of the witnesses' addresses that is none, or memory that ran out
 pub bad_texts : (options : FeedOptions) (texts : List (String Global)) (fault : FetchFault) → texts ≡ vec_items options.to
-    → (fault ≡ fetch.Run run.OutOfMemory) ⊎ ((fault ≡ fetch.BadAddress) × Any (λ t. IsNoUrl (string_bytes t)) texts) → IsAddressFault options fault
+    → (fault ≡ fetch.Run run.OutOfMemory) ⊎ ((place : ℕ) × (fault ≡ fetch.BadAddress (address.To place)) × IsFirstNoUrl (map string_bytes texts) place) → IsAddressFault options fault
 bad_texts options texts fault same (inl memory) = inr (inr memory)
-bad_texts options texts fault same (inr (bad, some)) = inr (inl (bad, subst (λ (ts : List (String Global)). Any (λ t. IsNoUrl (string_bytes t)) ts) same some))
+bad_texts options texts fault same (inr (place, bad, first)) =
+    inr (inl (place, bad, subst (λ (ts : List (String Global)). IsFirstNoUrl (map string_bytes ts) place) same first))

@@ -9,4 +9,6 @@ pub mod RunLemmas
 pub mod Trusts
 pub mod KeptLemmas
 pub mod KeyLemmas
+pub mod FreshLemmas
+pub mod AddressLemmas
 pub mod JudgingLemmas

@@ -1,5 +1,5 @@
 -- The command `fetch` (C2SP signed-note, "Verifier keys").
-use Rattle.std.specs.Prelude.{◌≡◌, ◌≢◌, ◌⊎◌, ℕ, ◌<◌, ◌≤◌, [], ◌∷◌, ◌++◌, List, Option, Some, None, Result, Ok, Err, String, Contains, IsSomeAnd, codes, length, map, string_bytes, vec_items, slice_index_or}
+use Rattle.std.specs.Prelude.{◌≡◌, ◌≢◌, ◌⊎◌, ℕ, ◌-◌, ◌<◌, ◌≤◌, [], ◌∷◌, ◌++◌, List, Option, Some, None, Result, Ok, Err, String, Contains, IsSomeAnd, codes, length, map, string_bytes, vec_items, slice_index_or}
 use Rattle.std.specs.List.{Any}
 use Rattle.tl_hash.specs.Bytes.{Bytes}
 use Rattle.tl_key.specs.KeyText.{IsVerifierText}
@@ -17,6 +17,7 @@ use Rattle.tl_command.specs.Faults.{after_device}
 use Rattle.tl_command.specs.declared.place.Place.TheVariants.{State, Source}
 use Rattle.tl_command.specs.declared.fault.RunFault.{RunFault}
 use Rattle.tl_command.specs.declared.fault.RunFault.TheVariants.{BadCheckpoint, BadKey, Device, OutOfMemory}
+use Rattle.tl_fetch.specs.declared.fault.Address.TheVariants.{From}
 use Rattle.tl_fetch.specs.declared.fault.FetchFault.{FetchFault}
 use Rattle.tl_fetch.specs.declared.fault.FetchFault.TheVariants.{Run, BadAddress, OtherKey, BadWitness, SharedKey, Unavailable}
 use Rattle.tl_fetch.specs.declared.options.FetchOptions.{FetchOptions}
@@ -59,13 +60,19 @@ HaveOwnKeys others (text ∷ texts) =
     (k : PublicKey) × IsVerifierText cosignature_kind text k × ¬ (Contains others k.key)
     × HaveOwnKeys (others ++ k.key ∷ []) texts
 
--- whose checkpoints are trusted: the log's, by one of the keys that were told, where so many witnesses cosigned them, no
--- two of whose keys are one public key, and none is the log's
+-- from when on a cosignature is fresh: so many seconds before what the clock read, if that is asked for
+abbrev pub IsSinceOf : Option ℕ → Option ℕ → Type 0
+IsSinceOf None since = since ≡ None
+IsSinceOf (Some seconds) since = (now : ℕ) × (since ≡ Some (now - seconds))
+
+-- whose checkpoints are trusted: the log's, by one of the keys that were told, where so many witnesses cosigned them, one
+-- of them lately enough; no two of their keys are one public key, and none is the log's
 pub record IsPolicyOf (options : FetchOptions) (policy : Policy) : Type 0 where
   pub keys : List PublicKey
   pub spelled : HaveLogKeys policy.origin (log_texts options) keys
   pub trusted : policy.trust.keys ≡ map verifier_key keys
   pub need : policy.trust.need ≡ options.need
+  pub since : IsSinceOf options.fresh policy.since
   pub own : HaveOwnKeys (public_keys keys) (witness_texts options)
 
 -- ---- what a run stands on
@@ -132,7 +139,7 @@ IsToldAs fault told =
 -- a run under a policy is refused: the address is none, and nothing is printed; or as `RefusesFetch` has it
 abbrev pub RefusesRun : Policy → FetchOptions → FetchFault → Passage → Type 0
 RefusesRun policy options told o =
-    ((told ≡ BadAddress) × HasScheme (string_bytes options.from) × IsNoUrl (string_bytes options.from) × IsUnwritten o)
+    ((told ≡ BadAddress From) × HasScheme (string_bytes options.from) × IsNoUrl (string_bytes options.from) × IsUnwritten o)
     ⊎ ((origin : Origin) × IsOriginOf (string_bytes options.from) origin
     × ((fault : FetchFault) × IsToldAs fault told
     × RefusesFetch (run_grounds origin options) (run_grounds origin options) policy options.wanted fault o))

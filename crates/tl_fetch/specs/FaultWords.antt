@@ -4,7 +4,7 @@ use Rattle.tl_hash.specs.Bytes.{Bytes}
 use Rattle.tl_text.specs.Text.{number_text}
 use Rattle.tl_command.specs.Faults.{exit_status, fault_text, fault_words}
 use Rattle.tl_fetch.specs.declared.fault.FetchFault.{FetchFault}
-use Rattle.tl_fetch.specs.declared.fault.FetchFault.TheVariants.{Run, BadAddress, OtherKey, BadWitness, SharedKey, Unavailable, OtherLog, TooFew, BadTile, BadBundle, BadEntry, Older, Forked}
+use Rattle.tl_fetch.specs.declared.fault.FetchFault.TheVariants.{Run, BadAddress, OtherKey, BadWitness, SharedKey, Unavailable, OtherLog, TooFew, Stale, BadTile, BadBundle, BadEntry, Older, Forked}
 
 -- what is said behind an older checkpoint: nothing more if it was compared
 abbrev pub uncompared_words : Bool → Bytes
@@ -14,13 +14,14 @@ uncompared_words false = codes " (not compared)"
 -- what it says
 abbrev pub fetch_words : FetchFault → Bytes
 fetch_words (Run fault) = fault_words fault
-fetch_words BadAddress = codes "bad address"
+fetch_words (BadAddress which) = codes "bad address"
 fetch_words OtherKey = codes "second key isn't another key of the log"
 fetch_words (BadWitness place) = codes "bad key of witness " ++ number_text place
 fetch_words (SharedKey place) = codes "witness " ++ number_text place ++ codes " has the key of another"
 fetch_words Unavailable = codes "not available"
 fetch_words OtherLog = codes "checkpoint of another log"
 fetch_words (TooFew count) = codes "cosigned by " ++ number_text count ++ codes " witnesses"
+fetch_words (Stale time) = codes "checkpoint not cosigned since " ++ number_text time
 fetch_words (BadTile level index width) =
     codes "tile " ++ number_text level ++ codes " " ++ number_text index ++ codes " " ++ number_text width ++ codes " wrong"
 fetch_words (BadBundle index) = codes "entry bundle " ++ number_text index ++ codes " malformed"
@@ -35,10 +36,11 @@ fetch_text (Run fault) = fault_text fault
 fetch_text fault = Some (codes "tlog: " ++ fetch_words fault)
 
 -- the exit status: 4 where the log forked, 3 where a device failed, a source didn't answer or has an older checkpoint,
--- else 1
+-- or one that isn't fresh, else 1
 abbrev pub fetch_status : FetchFault → ℕ
 fetch_status (Run fault) = exit_status fault
 fetch_status Unavailable = 3
 fetch_status (Older size of compared) = 3
+fetch_status (Stale time) = 3
 fetch_status Forked = 4
 fetch_status _ = 1

@@ -1,11 +1,12 @@
 -- The command `feed` (C2SP signed-note, "Verifier keys"; tlog-witness).
-use Rattle.std.specs.Prelude.{◌≡◌, ◌⊎◌, Result, Ok, Err, string_bytes, vec_items}
-use Rattle.std.specs.List.{Any}
+use Rattle.std.specs.Prelude.{◌≡◌, ◌⊎◌, ◌<◌, ℕ, List, [], Result, Ok, Err, length, map, slice_index_or, string_bytes, vec_items}
+use Rattle.tl_hash.specs.Bytes.{Bytes}
 use Rattle.tl_device.specs.Device.{Passage, IsUnwritten}
 use Rattle.tl_source.specs.Fulls.{may_answer_front}
 use Rattle.tl_source.specs.Sources.{Origin, any_answers}
 use Rattle.tl_source.specs.Url.{IsNoUrl}
 use Rattle.tl_command.specs.declared.fault.RunFault.TheVariants.{OutOfMemory}
+use Rattle.tl_fetch.specs.declared.fault.Address.TheVariants.{From, To}
 use Rattle.tl_fetch.specs.declared.fault.FetchFault.{FetchFault}
 use Rattle.tl_fetch.specs.declared.fault.FetchFault.TheVariants.{BadAddress, Run}
 use Rattle.tl_fetch.specs.declared.options.FetchOptions.{FetchOptions}
@@ -15,11 +16,21 @@ use Rattle.tl_fetch.specs.Feeding.{HasFed, RefusesFeed}
 use Rattle.tl_fetch.specs.Fetching.{Grounds}
 use Rattle.tl_fetch.specs.Trusting.{AreTwo, Policy, Two, alone}
 
+-- of these texts, the one at this place is the first that is no address
+pub record IsFirstNoUrl (texts : List Bytes) (place : ℕ) : Type 0 where
+  pub within : place < length texts
+  pub none : IsNoUrl (slice_index_or texts place [])
+  pub earlier : (before : ℕ) → before < place → ¬ (IsNoUrl (slice_index_or texts before []))
+
+-- the texts that are told as the witnesses' addresses
+abbrev pub address_texts : FeedOptions → List Bytes
+address_texts options = map string_bytes (vec_items options.to)
+
 -- the text that the log is read from has a scheme and is no address, or that of a witness is none; or memory ran out
 abbrev pub IsAddressFault : FeedOptions → FetchFault → Type 0
 IsAddressFault options fault =
-    ((fault ≡ BadAddress) × HasScheme (string_bytes options.log.from) × IsNoUrl (string_bytes options.log.from))
-    ⊎ (((fault ≡ BadAddress) × Any (λ text. IsNoUrl (string_bytes text)) (vec_items options.to))
+    ((fault ≡ BadAddress From) × HasScheme (string_bytes options.log.from) × IsNoUrl (string_bytes options.log.from))
+    ⊎ (((place : ℕ) × (fault ≡ BadAddress (To place)) × IsFirstNoUrl (address_texts options) place)
     ⊎ (fault ≡ Run OutOfMemory))
 
 -- over the folder or the host, whose full tiles and bundles stand for partial ones that are gone

@@ -4,6 +4,8 @@ pub
 pub
     mod Trusted
 pub
+    mod Freshness
+pub
     mod Naming
 pub
     mod FeedRuns

@@ -1,16 +1,19 @@
 -- Why a checkpoint isn't trusted (C2SP signed-note, tlog-checkpoint, tlog-cosignature).
-use Rattle.std.specs.Prelude.{◌≡◌, ◌≢◌, ◌⊎◌, Err, IsUtf8, Option, Some, None}
+use Rattle.std.specs.Prelude.{◌≡◌, ◌≢◌, ◌⊎◌, ◌<◌, ℕ, List, Contains, Err, IsUtf8, Option, Some, None}
 use Rattle.std.specs.Global.{Global}
 use Rattle.tl_hash.specs.Bytes.{Bytes}
+use Rattle.tl_note.specs.Key.{Key}
+use Rattle.tl_note.specs.Note.{Note, Signature}
 use Rattle.tl_tile.specs.declared.resource.Resource.{Resource}
 use Rattle.tl_tile.specs.declared.resource.Resource.TheVariants.{Checkpoint}
 use Rattle.tl_checkpoint.specs.Checkpoint as checkpoint
+use Rattle.tl_checkpoint.specs.Cosignature.{IsCosignature}
 use Rattle.tl_client.specs.Trusted.{IsTrusted, OpensHead}
 use Rattle.tl_client.specs.declared.head.HeadFault.{HeadFault}
 use Rattle.tl_command.specs.declared.place.Place.TheVariants.{State}
 use Rattle.tl_command.specs.declared.fault.RunFault.TheVariants.{BadCheckpoint, OutOfMemory}
 use Rattle.tl_fetch.specs.declared.fault.FetchFault.{FetchFault}
-use Rattle.tl_fetch.specs.declared.fault.FetchFault.TheVariants.{Run, OtherLog, Unavailable}
+use Rattle.tl_fetch.specs.declared.fault.FetchFault.TheVariants.{Run, OtherLog, Stale, Unavailable}
 use Rattle.tl_fetch.specs.Faults.{after_head, bad_checkpoint}
 use Rattle.tl_fetch.specs.Trusting.{Policy, alone}
 
@@ -25,9 +28,22 @@ abbrev pub IsUntrusted : Policy → Bytes → FetchFault → Type 0
 IsUntrusted policy note fault =
     (why : HeadFault) × OpensHead {A = Global} note policy.trust (Err why) × (fault ≡ after_head why)
 
+-- a note that is trusted but for its age: each cosignature by one of the witnesses is of a time before this one
+pub record IsStale (policy : Policy) (note : Bytes) (since : ℕ) : Type 0 where
+  pub checkpoint : checkpoint.Head
+  pub trusted : IsTrusted note policy.trust checkpoint
+  pub origin : checkpoint.origin ≡ policy.origin
+  pub asked : policy.since ≡ Some since
+  pub text : Bytes
+  pub lines : List Signature
+  pub noted : Note note text lines
+  pub early : (key : Key) (line : Signature) (time : ℕ) → Contains policy.trust.witnesses key → Contains lines line → IsCosignature text key line time → time < since
+
 -- why there is no size and root
 abbrev pub RefusesNote : Policy → Bytes → FetchFault → Type 0
-RefusesNote policy note fault = ((fault ≡ OtherLog) × IsOfOther policy note) ⊎ IsUntrusted policy note fault
+RefusesNote policy note fault =
+    ((fault ≡ OtherLog) × IsOfOther policy note)
+    ⊎ (IsUntrusted policy note fault ⊎ ((since : ℕ) × (fault ≡ Stale since) × IsStale policy note since))
 
 -- what is told where a state's note gives no size and root
 abbrev pub after_state : FetchFault → FetchFault

@@ -1,26 +1,49 @@
 -- Checkpoints of a log that are trusted, and how what is trusted moves (C2SP tlog-checkpoint, tlog-cosignature; RFC
 -- 6962, section 2.1.2).
-use Rattle.std.specs.Prelude.{◌≡◌, ℕ, List, [], Option, Some, None}
+use Rattle.std.specs.Prelude.{◌≡◌, ℕ, ◌≤◌, List, [], Contains, Option, Some, None}
 use Rattle.sha2.specs.Sha256.{sha256}
 use Rattle.tl_hash.specs.Bytes.{Bytes}
 use Rattle.tl_note.specs.Key.{Key}
+use Rattle.tl_note.specs.Note.{Note, Signature}
 use Rattle.tl_proof.specs.Acceptance.{AcceptsConsistency}
 use Rattle.tl_checkpoint.specs.Checkpoint as checkpoint
+use Rattle.tl_checkpoint.specs.Cosignature.{IsCosignature}
 use Rattle.tl_client.specs.Trusted.{Trust, IsTrusted}
 use Rattle.tl_hash.specs.declared.head.Head.{Head}
 
--- whose checkpoints are trusted: the log's name and keys, and so many of these witnesses
+-- whose checkpoints are trusted: the log's name and keys, so many of these witnesses, and one of them at this time, in
+-- seconds since 1970, or later, if there is one
 pub record Policy : Type 0 where
   pub origin : Bytes
   pub trust : Trust
+  pub since : Option ℕ
 
-abbrev pub policy_of : Bytes → List Key → List Key → ℕ → Policy
-policy_of origin keys witnesses need =
-    record { origin = origin; trust = record { keys = keys; witnesses = witnesses; need = need } }
+abbrev pub policy_of : Bytes → List Key → List Key → ℕ → Option ℕ → Policy
+policy_of origin keys witnesses need since =
+    record { origin = origin; trust = record { keys = keys; witnesses = witnesses; need = need }; since = since }
 
 -- the same, without witnesses
 abbrev pub alone : Policy → Policy
-alone policy = record { origin = policy.origin; trust = record { keys = policy.trust.keys; witnesses = []; need = 0 } }
+alone policy =
+    record { origin = policy.origin; trust = record { keys = policy.trust.keys; witnesses = []; need = 0 }; since = None }
+
+-- one of the witnesses cosigned the note at this time or later
+pub record IsCosignedSince (note : Bytes) (witnesses : List Key) (since : ℕ) : Type 0 where
+  pub text : Bytes
+  pub lines : List Signature
+  pub noted : Note note text lines
+  pub line : Signature
+  pub stands : Contains lines line
+  pub key : Key
+  pub known : Contains witnesses key
+  pub time : ℕ
+  pub valid : IsCosignature text key line time
+  pub late : since ≤ time
+
+-- it is fresh, if that is asked for
+abbrev pub IsFresh : Bytes → List Key → Option ℕ → Type 0
+IsFresh note witnesses None = Unit {0}
+IsFresh note witnesses (Some since) = IsCosignedSince note witnesses since
 
 -- the bytes are a note of the log's checkpoint of this size and root, which is trusted
 pub record IsNoteOf (policy : Policy) (note : Bytes) (head : Head) : Type 0 where
@@ -29,6 +52,7 @@ pub record IsNoteOf (policy : Policy) (note : Bytes) (head : Head) : Type 0 wher
   pub origin : checkpoint.origin ≡ policy.origin
   pub size : checkpoint.size ≡ head.size
   pub root : checkpoint.root ≡ head.root
+  pub fresh : IsFresh note policy.trust.witnesses policy.since
 
 -- what is known by the note that was trusted last: of none a log of no entries. What is kept was cosigned when it came
 abbrev pub IsKnown : Policy → Option Bytes → Head → Type 0

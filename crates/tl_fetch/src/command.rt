@@ -2,7 +2,7 @@
 
 ghost use Rattle.std.specs.Prelude.{◌≡◌, ◌++◌, string_bytes, IfErr, IfOk, codes, map};
 ghost use Rattle.tl_device.specs.Device.{passage};
-ghost use Rattle.tl_fetch.specs.Command.{HasScheme, IsOriginOf, IsStateFault, IsToldAs, RunsFetch, RunsUnder, cached_answers, cached_lacks};
+ghost use Rattle.tl_fetch.specs.Command.{HasScheme, IsOriginOf, IsSinceOf, IsStateFault, IsToldAs, RunsFetch, RunsUnder, cached_answers, cached_lacks};
 ghost use Rattle.tl_fetch.specs.Inner.LogKeys.{AreTold, ToldBy, keys_of};
 ghost use Rattle.tl_fetch.specs.Inner.Naming.{Renames, RunsOver, RunsWith};
 ghost use Rattle.tl_fetch.specs.Trusting.{policy_of};
@@ -10,7 +10,8 @@ ghost use Rattle.tl_source.specs.Sources.{origin_of};
 ghost use Rattle.tl_source.specs.Url.{IsNoUrl};
 
 use crate::caching::Caching;
-use crate::fault::FetchFault;
+use crate::fault::{Address, FetchFault};
+use crate::freshness::since_of;
 use crate::log_keys::{LogKeys, log_keys};
 use crate::observer::Observer;
 use crate::options::{FetchOptions, FetchRequest};
@@ -47,7 +48,7 @@ pub(crate) fn source_of<'s, H: Files + Net<Stream = TcpStream> + Clock>(
 ) -> Result<AnySource<'s, H>, FetchFault>
     ensures found { IfOk result
         (λ s. IsOriginOf (string_bytes options.now.from) (origin_of s)) }
-    ensures refused { IfErr result (λ fault. (fault ≡ FetchFault.BadAddress)
+    ensures refused { IfErr result (λ fault. (fault ≡ FetchFault.BadAddress Address.From)
         × HasScheme (string_bytes options.now.from) × IsNoUrl (string_bytes options.now.from)) }
 {
     let from = options.from.as_str();
@@ -55,7 +56,7 @@ pub(crate) fn source_of<'s, H: Files + Net<Stream = TcpStream> + Clock>(
         return Ok(AnySource::Folder(FolderSource::new(rt, alloc, from)));
     }
     let Some(url) = Url::parse(from) else {
-        return Err(FetchFault::BadAddress);
+        return Err(FetchFault::BadAddress(Address::From));
     };
     let limit = Duration::from_secs(options.timeout);
     Ok(AnySource::Http(HttpSource::new(rt, alloc, url, limit)))
@@ -89,8 +90,8 @@ fn fetch_beside<
 ) -> Result<(), FetchFault>
     ensures { RunsWith (S.may_answer source.now) (S.may_lack source.now) (λ note. Unit {0})
         IsStateFault (policy_of policy.now.origin.now (map (λ v. key v) policy.now.log.now)
-        (map (λ w. key w) policy.now.witnesses.now) policy.now.need) FetchRequest.All
-        (passage W.contents writer.old writer.new) result }
+        (map (λ w. key w) policy.now.witnesses.now) policy.now.need policy.now.since)
+        FetchRequest.All (passage W.contents writer.old writer.new) result }
 {
     let wanted = FetchRequest::All;
     let beside = printed_path(alloc, path)?;
@@ -130,7 +131,7 @@ fn fetch_with_file<
 ) -> Result<(), FetchFault>
     ensures { RunsWith (S.may_answer source.now) (S.may_lack source.now) (λ note. Unit {0})
         IsStateFault (policy_of policy.now.origin.now (map (λ v. key v) policy.now.log.now)
-        (map (λ w. key w) policy.now.witnesses.now) policy.now.need) wanted
+        (map (λ w. key w) policy.now.witnesses.now) policy.now.need policy.now.since) wanted
         (passage W.contents writer.old writer.new) result }
 {
     let mut state = match AtomicFile::open(rt, alloc, path) {
@@ -173,7 +174,7 @@ fn fetch_with_state<
 ) -> Result<(), FetchFault>
     ensures { RunsOver (S.may_answer source.now) (S.may_lack source.now)
         (policy_of policy.now.origin.now (map (λ v. key v) policy.now.log.now)
-        (map (λ w. key w) policy.now.witnesses.now) policy.now.need) options.now
+        (map (λ w. key w) policy.now.witnesses.now) policy.now.need policy.now.since) options.now
         (passage W.contents writer.old writer.new) result }
 {
     let wanted = options.wanted;
@@ -245,7 +246,7 @@ fn fetch_through<
     ensures { RunsOver (cached_answers options.now.cache (S.may_answer source.now))
         (cached_lacks options.now.cache (S.may_lack source.now))
         (policy_of policy.now.origin.now (map (λ v. key v) policy.now.log.now)
-        (map (λ w. key w) policy.now.witnesses.now) policy.now.need) options.now
+        (map (λ w. key w) policy.now.witnesses.now) policy.now.need policy.now.since) options.now
         (passage W.contents writer.old writer.new) result }
 {
     let mut progress = Progress::new(alloc, errors, is_terminal);
@@ -274,7 +275,7 @@ fn fetch_as_asked<'s, H: Files<File = File> + HostClient, W: Write, E: Write>(
     is_terminal: bool,
 ) -> Result<(), FetchFault>
     ensures { RunsUnder (policy_of policy.now.origin.now (map (λ v. key v) policy.now.log.now)
-        (map (λ w. key w) policy.now.witnesses.now) policy.now.need) options.now
+        (map (λ w. key w) policy.now.witnesses.now) policy.now.need policy.now.since) options.now
         (passage W.contents writer.old writer.new) result }
 {
     let source = match source_of(rt, alloc, options) {
@@ -307,6 +308,7 @@ fn fetch_as_told<'s, H: Files<File = File> + HostClient, W: Write, E: Write>(
 ) -> Result<(), FetchFault>
     requires told { ToldBy options.now policy.now.origin.now (map (λ v. key v) policy.now.log.now) }
     requires need { policy.now.need ≡ options.now.need }
+    requires since { IsSinceOf options.now.fresh policy.now.since }
     ensures { RunsFetch options.now (passage W.contents writer.old writer.new) result }
 {
     match fetch_as_asked(rt, alloc, policy, options, writer, errors, is_terminal) {
@@ -336,6 +338,7 @@ fn fetch_by<'s, H: Files<File = File> + HostClient, W: Write, E: Write>(
     let origin = String::from_str(alloc, keys.key.name())?;
     let witnesses = witnesses.as_slice();
     let (origin, need) = (origin.as_str(), options.need);
+    let since = since_of(rt, options.fresh);
     let first: Box<dyn Verifier> = Box::new(alloc, keys.key)?;
     let Some(other) = keys.other else {
         let policy = Policy {
@@ -343,6 +346,7 @@ fn fetch_by<'s, H: Files<File = File> + HostClient, W: Write, E: Write>(
             log: &[first],
             witnesses,
             need,
+            since,
         };
         return fetch_as_told(rt, alloc, &policy, options, writer, errors, is_terminal);
     };
@@ -352,6 +356,7 @@ fn fetch_by<'s, H: Files<File = File> + HostClient, W: Write, E: Write>(
         log: &[first, second],
         witnesses,
         need,
+        since,
     };
     fetch_as_told(rt, alloc, &policy, options, writer, errors, is_terminal)
 }
@@ -359,6 +364,7 @@ fn fetch_by<'s, H: Files<File = File> + HostClient, W: Write, E: Write>(
 /// `fetch`: reads the keys of the log, one or two, and of the witnesses (C2SP signed-note, "Verifier keys"), and
 /// fetches what is wanted from the folder or over HTTP as `fetch_under` does, of the log with the name of its keys, with
 /// as many requests in flight as the options tell. Where `errors` goes to a terminal, it is told how far the checks are.
+/// The clock is read once, if a cosignature has to be fresh.
 pub fn run_fetch<
     's,
     H: Files<File = File>

@@ -8,13 +8,22 @@ use std::error::Error;
 use std::fmt::{self, Display, Formatter};
 use tl_command::{RunFault, exit_of, fault_line};
 
+/// An address that the options name.
+#[derive(Clone, Copy, Debug, PartialEq, Eq)]
+pub enum Address {
+    /// The one that the log is read from.
+    From,
+    /// The one of the witness at this place, counted from 0.
+    To(u64),
+}
+
 /// Why nothing, or not all, is fetched of a log that isn't trusted.
 #[derive(Clone, Copy, Debug, PartialEq, Eq)]
 pub enum FetchFault {
     /// A fault as other commands have it, too.
     Run(RunFault),
-    /// The address is none over HTTP.
-    BadAddress,
+    /// This address is none over HTTP.
+    BadAddress(Address),
     /// The second key of the log has another name than the first, or is the same public key.
     OtherKey,
     /// The text at this place, counted from 0, is the key of no witness.
@@ -27,6 +36,8 @@ pub enum FetchFault {
     OtherLog,
     /// Only so many witnesses cosigned the checkpoint.
     TooFew(u64),
+    /// None of the witnesses cosigned the checkpoint at this time, in seconds since 1970, or later.
+    Stale(u64),
     /// This tile is not the one that the root was made with.
     BadTile {
         /// Its level.
@@ -68,13 +79,14 @@ impl Display for FetchFault {
     fn fmt<W: fmt::Write>(&self, f: &mut Formatter<W>) -> fmt::Result {
         let words = match self {
             FetchFault::Run(fault) => return fault.fmt(f),
-            FetchFault::BadAddress => "bad address",
+            FetchFault::BadAddress(_) => "bad address",
             FetchFault::OtherKey => "second key isn't another key of the log",
             FetchFault::BadWitness(k) => return write!(f, "bad key of witness {k}"),
             FetchFault::SharedKey(k) => return write!(f, "witness {k} has the key of another"),
             FetchFault::Unavailable => "not available",
             FetchFault::OtherLog => "checkpoint of another log",
             FetchFault::TooFew(n) => return write!(f, "cosigned by {n} witnesses"),
+            FetchFault::Stale(time) => return write!(f, "checkpoint not cosigned since {time}"),
             FetchFault::BadTile {
                 level,
                 index,
@@ -127,13 +139,13 @@ impl<X: Drop> From<AllocFailed<X>> for FetchFault {
 }
 
 /// The exit status of a fault: 4 if the log forked, 3 if a device failed, a source didn't answer or has an older
-/// checkpoint, else 1. It takes no memory.
+/// checkpoint, or one that isn't fresh, else 1. It takes no memory.
 pub fn fetch_exit_of(fault: &FetchFault) -> u8
     ensures { result ≡ fetch_status fault.now }
 {
     match fault {
         FetchFault::Run(fault) => exit_of(fault),
-        FetchFault::Unavailable | FetchFault::Older { .. } => 3,
+        FetchFault::Unavailable | FetchFault::Older { .. } | FetchFault::Stale(_) => 3,
         FetchFault::Forked => 4,
         _ => 1,
     }

@@ -2,7 +2,7 @@
 //! state of what was trusted last.
 //!
 //! ```
-//! let head = open_trusted(alloc, &policy, note)?; // signed by the log, and cosigned by enough witnesses
+//! let head = open_trusted(alloc, &policy, note)?; // signed by the log, cosigned by enough witnesses, lately enough
 //! let entry = fetch_entry(alloc, &source, head, 7, &mut observer)?;
 //! ```
 #![tactic(auto)]
@@ -14,6 +14,7 @@ mod entry;
 mod fault;
 mod faults;
 mod feed;
+mod freshness;
 mod judging;
 mod kept;
 mod law;
@@ -32,7 +33,7 @@ mod witnesses;
 
 pub use command::run_fetch;
 pub use entry::fetch_entry;
-pub use fault::{FetchFault, fetch_exit_of, fetch_fault_line};
+pub use fault::{Address, FetchFault, fetch_exit_of, fetch_fault_line};
 pub use feed::asking::AsksWitnesses;
 pub use feed::command::{FeedOptions, run_feed};
 pub use feed::feeding::feed_under;

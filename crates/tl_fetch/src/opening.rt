@@ -10,6 +10,7 @@ ghost use Rattle.tl_fetch.specs.Trusting.{IsKnown, IsNoteOf, policy_of};
 
 use crate::fault::FetchFault;
 use crate::faults::{BAD_CHECKPOINT, head_refusal};
+use crate::freshness::check_fresh;
 use crate::policy::Policy;
 use crate::state::TrustStore;
 use std::alloc::Global;
@@ -38,15 +39,18 @@ fn read_note<S: ResourceSource>(alloc: Global, source: &S) -> Result<String, Fet
 }
 
 /// The size and the root of a log by a note that is trusted: it opens under the log's keys, its text is a checkpoint
-/// (C2SP tlog-checkpoint) that enough of the witnesses cosigned (C2SP tlog-cosignature), and names the log. `OtherLog`:
-/// it is trusted, and names another.
+/// (C2SP tlog-checkpoint) that enough of the witnesses cosigned (C2SP tlog-cosignature), it names the log, and one of
+/// the witnesses cosigned it lately enough, if the policy asks for that. `OtherLog`: it names another. `Stale`: each
+/// cosignature by one of the witnesses is of an earlier time.
 pub fn open_trusted(alloc: Global, policy: &Policy<'_>, note: &str) -> Result<Head, FetchFault>
     ensures trusted { IfOk result
         (λ head. IsNoteOf (policy_of policy.now.origin.now (map (λ v. key v) policy.now.log.now)
-        (map (λ w. key w) policy.now.witnesses.now) policy.now.need) note.now head) }
+        (map (λ w. key w) policy.now.witnesses.now) policy.now.need policy.now.since)
+        note.now head) }
     ensures fair { IfErr result IsNoAccusation }
     ensures refused { IfErr result (RefusesNote (policy_of policy.now.origin.now (map (λ v. key v)
-        policy.now.log.now) (map (λ w. key w) policy.now.witnesses.now) policy.now.need) note.now) }
+        policy.now.log.now) (map (λ w. key w) policy.now.witnesses.now) policy.now.need
+        policy.now.since) note.now) }
 {
     let opened = open_cosigned(alloc, note, policy.log, policy.witnesses, policy.need);
     let checkpoint = match opened {
@@ -55,6 +59,9 @@ pub fn open_trusted(alloc: Global, policy: &Policy<'_>, note: &str) -> Result<He
     };
     if checkpoint.origin.as_str() != policy.origin {
         return Err(FetchFault::OtherLog);
+    }
+    if let Err(fault) = check_fresh(alloc, policy, note) {
+        return Err(fault);
     }
     Ok(Head {
         size: checkpoint.size,
@@ -81,12 +88,12 @@ pub fn trusted_head(
     last: Option<&str>,
 ) -> Result<Head, FetchFault>
     ensures known { IfOk result (λ head. IsKnown (policy_of policy.now.origin.now (map (λ v.
-        key v) policy.now.log.now) (map (λ w. key w) policy.now.witnesses.now) policy.now.need)
-        (option_map (λ s. s.now) last.entry) head) }
+        key v) policy.now.log.now) (map (λ w. key w) policy.now.witnesses.now) policy.now.need
+        policy.now.since) (option_map (λ s. s.now) last.entry) head) }
     ensures fair { IfErr result IsNoAccusation }
     ensures refused { IfErr result (RefusesState (policy_of policy.now.origin.now (map (λ v.
-        key v) policy.now.log.now) (map (λ w. key w) policy.now.witnesses.now) policy.now.need)
-        (option_map (λ s. s.now) last.entry)) }
+        key v) policy.now.log.now) (map (λ w. key w) policy.now.witnesses.now) policy.now.need
+        policy.now.since) (option_map (λ s. s.now) last.entry)) }
 {
     let Some(note) = last else {
         return Ok(Head {
@@ -99,6 +106,7 @@ pub fn trusted_head(
         log: policy.log,
         witnesses: &[],
         need: 0,
+        since: None,
     };
     match open_trusted(alloc, &alone, note) {
         Ok(head) => Ok(head),
@@ -121,12 +129,12 @@ pub(crate) fn trusted_last<K: TrustStore>(
 ) -> Result<Trusted<Option<String>>, FetchFault>
     ensures had { IfOk result (λ t. K.may_have state.now (option_map string_bytes t.note)) }
     ensures known { IfOk result (λ t. IsKnown (policy_of policy.now.origin.now (map (λ v.
-        key v) policy.now.log.now) (map (λ w. key w) policy.now.witnesses.now) policy.now.need)
-        (option_map string_bytes t.note) t.head) }
+        key v) policy.now.log.now) (map (λ w. key w) policy.now.witnesses.now) policy.now.need
+        policy.now.since) (option_map string_bytes t.note) t.head) }
     ensures fair { IfErr result IsNoAccusation }
     ensures refused { IfErr result (LacksLast (K.may_fail state.now) (K.may_have state.now)
         (policy_of policy.now.origin.now (map (λ v. key v) policy.now.log.now)
-        (map (λ w. key w) policy.now.witnesses.now) policy.now.need)) }
+        (map (λ w. key w) policy.now.witnesses.now) policy.now.need policy.now.since)) }
 {
     let note = match state.last(alloc) {
         Ok(note) => note,
@@ -146,11 +154,13 @@ fn trusted_now<S: ResourceSource>(
 ) -> Result<Trusted<String>, FetchFault>
     ensures trusted { IfOk result
         (λ t. IsNoteOf (policy_of policy.now.origin.now (map (λ v. key v) policy.now.log.now) (map
-        (λ w. key w) policy.now.witnesses.now) policy.now.need) (string_bytes t.note) t.head) }
+        (λ w. key w) policy.now.witnesses.now) policy.now.need policy.now.since)
+        (string_bytes t.note) t.head) }
     ensures fair { IfErr result IsNoAccusation }
     ensures refused { IfErr result (RefusesCheckpoint (S.may_answer source.now)
         (S.may_lack source.now) (policy_of policy.now.origin.now (map (λ v. key v)
-        policy.now.log.now) (map (λ w. key w) policy.now.witnesses.now) policy.now.need)) }
+        policy.now.log.now) (map (λ w. key w) policy.now.witnesses.now) policy.now.need
+        policy.now.since)) }
 {
     let note = match read_note(alloc, source) {
         Ok(note) => note,
@@ -171,16 +181,17 @@ pub(crate) fn trusted_two<S: ResourceSource, K: TrustStore>(
 ) -> Result<(Trusted<Option<String>>, Trusted<String>), FetchFault>
     ensures had { IfOk result (λ t. K.may_have state.now (option_map string_bytes t.0.note)) }
     ensures known { IfOk result (λ t. IsKnown (policy_of policy.now.origin.now (map (λ v.
-        key v) policy.now.log.now) (map (λ w. key w) policy.now.witnesses.now) policy.now.need)
-        (option_map string_bytes t.0.note) t.0.head) }
+        key v) policy.now.log.now) (map (λ w. key w) policy.now.witnesses.now) policy.now.need
+        policy.now.since) (option_map string_bytes t.0.note) t.0.head) }
     ensures trusted { IfOk result (λ t. IsNoteOf
         (policy_of policy.now.origin.now (map (λ v. key v) policy.now.log.now) (map (λ w.
-        key w) policy.now.witnesses.now) policy.now.need) (string_bytes t.1.note) t.1.head) }
+        key w) policy.now.witnesses.now) policy.now.need policy.now.since)
+        (string_bytes t.1.note) t.1.head) }
     ensures fair { IfErr result IsNoAccusation }
     ensures refused { IfErr result (LacksTrust (grounds_of (S.may_answer source.now)
         (S.may_lack source.now) (K.may_have state.now) (K.may_fail state.now)) (policy_of
         policy.now.origin.now (map (λ v. key v) policy.now.log.now)
-        (map (λ w. key w) policy.now.witnesses.now) policy.now.need)) }
+        (map (λ w. key w) policy.now.witnesses.now) policy.now.need policy.now.since)) }
 {
     let last = match trusted_last(alloc, policy, state) {
         Ok(last) => last,

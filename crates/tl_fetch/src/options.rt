@@ -28,6 +28,8 @@ pub struct FetchOptions {
     pub witnesses: Vec<String>,
     /// How many of the witnesses must have cosigned a checkpoint.
     pub need: u64,
+    /// How many seconds ago a witness of these must have cosigned the checkpoint at most; without it, whenever.
+    pub fresh: Option<u64>,
     /// The file with the checkpoint that was trusted last; without it, none was. Beside it, in a file whose name has
     /// `.printed` behind, is the one up to which all entries were printed.
     pub state: Option<String>,

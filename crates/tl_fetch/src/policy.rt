@@ -2,8 +2,9 @@
 
 use tl_note::Verifier;
 
-/// Whose checkpoints of a log are trusted: the log's name and its keys, and how many of which witnesses must have
-/// cosigned one (C2SP tlog-checkpoint, tlog-cosignature). Keys with one name are one witness's: it counts once.
+/// Whose checkpoints of a log are trusted: the log's name and its keys, how many of which witnesses must have cosigned
+/// one, and one of them since when (C2SP tlog-checkpoint, tlog-cosignature). Keys with one name are one witness's: it
+/// counts once.
 #[derive(Drop)]
 pub struct Policy<'k> {
     /// The log's name.
@@ -14,4 +15,7 @@ pub struct Policy<'k> {
     pub witnesses: &'k [Box<dyn Verifier>],
     /// How many of the witnesses must have cosigned a checkpoint.
     pub need: u64,
+    /// The time, in seconds since 1970, at which or after which one of the witnesses must have cosigned; without it,
+    /// whenever.
+    pub since: Option<u64>,
 }

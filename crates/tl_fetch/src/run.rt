@@ -80,11 +80,12 @@ fn keep_and_print<
     writer: &mut Counted<W>,
 ) -> Result<(), FetchFault>
     requires known { IsKnown (policy_of policy.now.origin.now (map (λ v. key v) policy.now.log.now)
-        (map (λ w. key w) policy.now.witnesses.now) policy.now.need)
+        (map (λ w. key w) policy.now.witnesses.now) policy.now.need policy.now.since)
         (option_map (λ s. s.now) step.now.last) step.now.old.now }
     requires trusted { IsNoteOf
         (policy_of policy.now.origin.now (map (λ v. key v) policy.now.log.now) (map
-        (λ w. key w) policy.now.witnesses.now) policy.now.need) step.now.note.now step.now.new.now }
+        (λ w. key w) policy.now.witnesses.now) policy.now.need policy.now.since)
+        step.now.note.now step.now.new.now }
     requires grown { IsGrown step.now.old.now step.now.new.now }
     ensures printed { OnOk result (PrintedWhole (IsWanted policy.now.origin.now
         step.now.old.now.size step.now.new.now wanted) (passage W.contents writer.old writer.new)) }
@@ -129,14 +130,15 @@ fn print_and_keep<
     writer: &mut Counted<W>,
 ) -> Result<(), FetchFault>
     requires known { IsKnown (policy_of policy.now.origin.now (map (λ v. key v) policy.now.log.now)
-        (map (λ w. key w) policy.now.witnesses.now) policy.now.need)
+        (map (λ w. key w) policy.now.witnesses.now) policy.now.need policy.now.since)
         (option_map (λ s. s.now) step.now.last) step.now.old.now }
     requires trusted { IsNoteOf
         (policy_of policy.now.origin.now (map (λ v. key v) policy.now.log.now) (map
-        (λ w. key w) policy.now.witnesses.now) policy.now.need) step.now.note.now step.now.new.now }
+        (λ w. key w) policy.now.witnesses.now) policy.now.need policy.now.since)
+        step.now.note.now step.now.new.now }
     requires grown { IsGrown step.now.old.now step.now.new.now }
     requires marked { IsKnown (policy_of policy.now.origin.now (map (λ v. key v) policy.now.log.now)
-        (map (λ w. key w) policy.now.witnesses.now) policy.now.need)
+        (map (λ w. key w) policy.now.witnesses.now) policy.now.need policy.now.since)
         (option_map (λ s. s.now) since.now.last) since.now.old.now }
     requires since { IsGrown since.now.old.now step.now.new.now }
     ensures printed { OnOk result (PrintedWhole (AreLinesBetween step.now.new.now
@@ -209,15 +211,16 @@ fn fetch_all<
     writer: &mut Counted<W>,
 ) -> Result<(), FetchFault>
     requires known { IsKnown (policy_of policy.now.origin.now (map (λ v. key v) policy.now.log.now)
-        (map (λ w. key w) policy.now.witnesses.now) policy.now.need)
+        (map (λ w. key w) policy.now.witnesses.now) policy.now.need policy.now.since)
         (option_map (λ s. s.now) step.now.last) step.now.old.now }
     requires trusted { IsNoteOf
         (policy_of policy.now.origin.now (map (λ v. key v) policy.now.log.now) (map
-        (λ w. key w) policy.now.witnesses.now) policy.now.need) step.now.note.now step.now.new.now }
+        (λ w. key w) policy.now.witnesses.now) policy.now.need policy.now.since)
+        step.now.note.now step.now.new.now }
     requires grown { IsGrown step.now.old.now step.now.new.now }
     ensures printed { OnOk result (HasPrinted (C.may_have printed.old) (C.has_kept printed.new)
         (policy_of policy.now.origin.now (map (λ v. key v) policy.now.log.now) (map (λ w. key w)
-        policy.now.witnesses.now) policy.now.need) (two_of (option_map (λ s. s.now)
+        policy.now.witnesses.now) policy.now.need policy.now.since) (two_of (option_map (λ s. s.now)
         step.now.last) step.now.old.now step.now.note.now step.now.new.now) FetchRequest.All
         (passage W.contents writer.old writer.new)) }
     ensures kept { OnOk result (K.has_kept state.new step.now.note.now) }
@@ -227,8 +230,9 @@ fn fetch_all<
         (grounds_of (S.may_answer source.now) (S.may_lack source.now)
         (C.may_have printed.old) (C.may_fail printed.old))
         (policy_of policy.now.origin.now (map (λ v. key v) policy.now.log.now) (map (λ w. key w)
-        policy.now.witnesses.now) policy.now.need) FetchRequest.All (two_of (option_map (λ s. s.now)
-        step.now.last) step.now.old.now step.now.note.now step.now.new.now) fault
+        policy.now.witnesses.now) policy.now.need policy.now.since) FetchRequest.All (two_of
+        (option_map (λ s. s.now) step.now.last) step.now.old.now step.now.note.now
+        step.now.new.now) fault
         (passage W.contents writer.old writer.new)) }
 {
     let mark = match trusted_last(alloc, policy, printed) {
@@ -275,15 +279,16 @@ fn fetch_grown<
     writer: &mut Counted<W>,
 ) -> Result<(), FetchFault>
     requires known { IsKnown (policy_of policy.now.origin.now (map (λ v. key v) policy.now.log.now)
-        (map (λ w. key w) policy.now.witnesses.now) policy.now.need)
+        (map (λ w. key w) policy.now.witnesses.now) policy.now.need policy.now.since)
         (option_map (λ s. s.now) step.now.last) step.now.old.now }
     requires trusted { IsNoteOf
         (policy_of policy.now.origin.now (map (λ v. key v) policy.now.log.now) (map
-        (λ w. key w) policy.now.witnesses.now) policy.now.need) step.now.note.now step.now.new.now }
+        (λ w. key w) policy.now.witnesses.now) policy.now.need policy.now.since)
+        step.now.note.now step.now.new.now }
     requires grown { IsGrown step.now.old.now step.now.new.now }
     ensures printed { OnOk result (HasPrinted (C.may_have printed.old) (C.has_kept printed.new)
         (policy_of policy.now.origin.now (map (λ v. key v) policy.now.log.now) (map (λ w. key w)
-        policy.now.witnesses.now) policy.now.need) (two_of (option_map (λ s. s.now)
+        policy.now.witnesses.now) policy.now.need policy.now.since) (two_of (option_map (λ s. s.now)
         step.now.last) step.now.old.now step.now.note.now step.now.new.now) wanted
         (passage W.contents writer.old writer.new)) }
     ensures kept { OnOk result (K.has_kept state.new step.now.note.now) }
@@ -294,8 +299,9 @@ fn fetch_grown<
         (grounds_of (S.may_answer source.now) (S.may_lack source.now)
         (C.may_have printed.old) (C.may_fail printed.old))
         (policy_of policy.now.origin.now (map (λ v. key v) policy.now.log.now) (map (λ w. key w)
-        policy.now.witnesses.now) policy.now.need) wanted (two_of (option_map (λ s. s.now)
-        step.now.last) step.now.old.now step.now.note.now step.now.new.now) fault
+        policy.now.witnesses.now) policy.now.need policy.now.since) wanted (two_of
+        (option_map (λ s. s.now) step.now.last) step.now.old.now step.now.note.now
+        step.now.new.now) fault
         (passage W.contents writer.old writer.new)) }
 {
     match wanted {
@@ -335,7 +341,7 @@ pub fn fetch_under<
         (record { may_have = K.may_have state.old; has_kept = K.has_kept state.new })
         (record { may_have = C.may_have printed.old; has_kept = C.has_kept printed.new })
         (policy_of policy.now.origin.now (map (λ v. key v) policy.now.log.now)
-        (map (λ w. key w) policy.now.witnesses.now) policy.now.need) wanted
+        (map (λ w. key w) policy.now.witnesses.now) policy.now.need policy.now.since) wanted
         (passage W.contents writer.old writer.new)) }
     ensures unmoved { wanted ≢ FetchRequest.All → printed.new ≡ printed.old }
     ensures refused { IfErr result (λ fault. RefusesFetch
@@ -344,7 +350,7 @@ pub fn fetch_under<
         (grounds_of (S.may_answer source.now) (S.may_lack source.now)
         (C.may_have printed.old) (C.may_fail printed.old))
         (policy_of policy.now.origin.now (map (λ v. key v) policy.now.log.now)
-        (map (λ w. key w) policy.now.witnesses.now) policy.now.need) wanted fault
+        (map (λ w. key w) policy.now.witnesses.now) policy.now.need policy.now.since) wanted fault
         (passage W.contents writer.old writer.new)) }
 {
     let (last, now) = match trusted_two(alloc, source, policy, state) {

@@ -36,7 +36,7 @@ pub trait TrustStore {
         note: &str,
     ) -> Result<(), FetchFault>
         requires { IsNext (policy_of policy.now.origin.now (map (λ v. key v) policy.now.log.now)
-            (map (λ w. key w) policy.now.witnesses.now) policy.now.need)
+            (map (λ w. key w) policy.now.witnesses.now) policy.now.need policy.now.since)
             (option_map (λ s. s.now) last) note.now }
         ensures kept { OnOk result (has_kept self.new note.now) }
         ensures refused { IfErr result (may_fail self.old) }

@@ -37,7 +37,8 @@ fn line_at<S: ResourceSource, Q: AsksWitnesses>(
 ) -> Result<String, Unasked>
     requires { IsNoteOf (alone
         (policy_of policy.now.origin.now (map (λ v. key v) policy.now.log.now)
-        (map (λ w. key w) policy.now.witnesses.now) policy.now.need)) note.now head.now }
+        (map (λ w. key w) policy.now.witnesses.now) policy.now.need policy.now.since))
+        note.now head.now }
 {
     let Some(mut asker) = witnesses.asker(place) else {
         return Err(Unasked::Device(DeviceFault::NoHost));
@@ -66,7 +67,8 @@ pub(crate) fn line_by<S: ResourceSource, Q: AsksWitnesses>(
 ) -> Option<String>
     requires { IsNoteOf (alone
         (policy_of policy.now.origin.now (map (λ v. key v) policy.now.log.now)
-        (map (λ w. key w) policy.now.witnesses.now) policy.now.need)) note.now head.now }
+        (map (λ w. key w) policy.now.witnesses.now) policy.now.need policy.now.since))
+        note.now head.now }
 {
     match line_at(
         alloc, source, policy, note, head, known, keys, witnesses, place,

@@ -2,6 +2,7 @@
 
 ghost use Rattle.std.specs.Prelude.{◌≡◌, map};
 ghost use Rattle.tl_device.specs.Device.{passage};
+ghost use Rattle.tl_fetch.specs.Command.{IsSinceOf};
 ghost use Rattle.tl_fetch.specs.FeedCommand.{RunsFeed, RunsFeedUnder};
 ghost use Rattle.tl_fetch.specs.Inner.FeedRuns.{FeedsOver};
 ghost use Rattle.tl_fetch.specs.Inner.LogKeys.{AreTold, ToldBy, keys_of};
@@ -12,6 +13,7 @@ use crate::fault::FetchFault;
 use crate::feed::asking::AsksWitnesses;
 use crate::feed::feeding::feed_under;
 use crate::feed::witnesses::{HttpWitnesses, addresses};
+use crate::freshness::since_of;
 use crate::log_keys::{LogKeys, log_keys};
 use crate::observer::Nobody;
 use crate::options::FetchOptions;
@@ -52,7 +54,7 @@ fn feed_with_state<H: Files<File = File>, S: ResourceSource, Q: AsksWitnesses, W
 ) -> Result<(), FetchFault>
     ensures { FeedsOver (S.may_answer source.now) (S.may_lack source.now)
         (policy_of policy.now.origin.now (map (λ v. key v) policy.now.log.now)
-        (map (λ w. key w) policy.now.witnesses.now) policy.now.need) options.now
+        (map (λ w. key w) policy.now.witnesses.now) policy.now.need policy.now.since) options.now
         (passage W.contents writer.old writer.new) result }
 {
     let mut nobody = Nobody;
@@ -100,7 +102,7 @@ fn feed_as_asked<'s, H: Files<File = File> + Net<Stream = TcpStream> + Clock, W:
     errors: &'s mut Counted<E>,
 ) -> Result<(), FetchFault>
     ensures { RunsFeedUnder (policy_of policy.now.origin.now (map (λ v. key v) policy.now.log.now)
-        (map (λ w. key w) policy.now.witnesses.now) policy.now.need) options.now
+        (map (λ w. key w) policy.now.witnesses.now) policy.now.need policy.now.since) options.now
         (passage W.contents writer.old writer.new) result }
 {
     let urls = match addresses(alloc, options.to.as_slice()) {
@@ -134,6 +136,7 @@ fn feed_as_told<'s, H: Files<File = File> + Net<Stream = TcpStream> + Clock, W: 
 ) -> Result<(), FetchFault>
     requires told { ToldBy options.now.log policy.now.origin.now (map (λ v. key v) policy.now.log.now) }
     requires need { policy.now.need ≡ options.now.log.need }
+    requires since { IsSinceOf options.now.log.fresh policy.now.since }
     ensures { RunsFeed options.now (passage W.contents writer.old writer.new) result }
 {
     match feed_as_asked(rt, alloc, policy, options, writer, errors) {
@@ -162,6 +165,7 @@ fn feed_by<'s, H: Files<File = File> + Net<Stream = TcpStream> + Clock, W: Write
     let origin = String::from_str(alloc, keys.key.name())?;
     let witnesses = witnesses.as_slice();
     let (origin, need) = (origin.as_str(), options.log.need);
+    let since = since_of(rt, options.log.fresh);
     let first: Box<dyn Verifier> = Box::new(alloc, keys.key)?;
     let Some(other) = keys.other else {
         let policy = Policy {
@@ -169,6 +173,7 @@ fn feed_by<'s, H: Files<File = File> + Net<Stream = TcpStream> + Clock, W: Write
             log: &[first],
             witnesses,
             need,
+            since,
         };
         return feed_as_told(rt, alloc, &policy, options, writer, errors);
     };
@@ -178,6 +183,7 @@ fn feed_by<'s, H: Files<File = File> + Net<Stream = TcpStream> + Clock, W: Write
         log: &[first, second],
         witnesses,
         need,
+        since,
     };
     feed_as_told(rt, alloc, &policy, options, writer, errors)
 }

@@ -60,7 +60,8 @@ fn with_lines<S: ResourceSource, Q: AsksWitnesses>(
 ) -> Result<String, AllocError>
     requires { IsNoteOf (alone
         (policy_of policy.now.origin.now (map (λ v. key v) policy.now.log.now)
-        (map (λ w. key w) policy.now.witnesses.now) policy.now.need)) note.now head.now }
+        (map (λ w. key w) policy.now.witnesses.now) policy.now.need policy.now.since))
+        note.now head.now }
     ensures { IfOk result (λ text. (lines : Bytes) × (string_bytes text ≡ note.now ++ lines)) }
 {
     let mut lines = String::new(alloc);
@@ -90,14 +91,15 @@ fn cosigned<S: ResourceSource, Q: AsksWitnesses>(
 ) -> Result<String, FetchFault>
     requires { IsNoteOf (alone
         (policy_of policy.now.origin.now (map (λ v. key v) policy.now.log.now)
-        (map (λ w. key w) policy.now.witnesses.now) policy.now.need)) note.now head.now }
+        (map (λ w. key w) policy.now.witnesses.now) policy.now.need policy.now.since))
+        note.now head.now }
     ensures fed { IfOk result (λ text. IsFedNote
         (policy_of policy.now.origin.now (map (λ v. key v) policy.now.log.now)
-        (map (λ w. key w) policy.now.witnesses.now) policy.now.need)
+        (map (λ w. key w) policy.now.witnesses.now) policy.now.need policy.now.since)
         note.now head.now (string_bytes text)) }
     ensures unfed { IfErr result (IsUnfed
         (policy_of policy.now.origin.now (map (λ v. key v) policy.now.log.now)
-        (map (λ w. key w) policy.now.witnesses.now) policy.now.need) note.now) }
+        (map (λ w. key w) policy.now.witnesses.now) policy.now.need policy.now.since) note.now) }
     ensures fair { IfErr result IsNoAccusation }
 {
     let text = with_lines(alloc, source, policy, note, head, known, asker)?;
@@ -123,29 +125,30 @@ fn keep_and_feed<S: ResourceSource, K: TrustStore, Q: AsksWitnesses, W: Write>(
     writer: &mut Counted<W>,
 ) -> Result<(), FetchFault>
     requires log { policy_of log.now.origin.now (map (λ v. key v) log.now.log.now)
-        (map (λ w. key w) log.now.witnesses.now) log.now.need
+        (map (λ w. key w) log.now.witnesses.now) log.now.need log.now.since
         ≡ alone (policy_of policy.now.origin.now (map (λ v. key v) policy.now.log.now)
-        (map (λ w. key w) policy.now.witnesses.now) policy.now.need) }
+        (map (λ w. key w) policy.now.witnesses.now) policy.now.need policy.now.since) }
     requires known { IsKnown (policy_of log.now.origin.now (map (λ v. key v) log.now.log.now)
-        (map (λ w. key w) log.now.witnesses.now) log.now.need)
+        (map (λ w. key w) log.now.witnesses.now) log.now.need log.now.since)
         (option_map (λ s. s.now) step.now.last) step.now.old.now }
     requires trusted { IsNoteOf (policy_of log.now.origin.now (map (λ v. key v) log.now.log.now)
-        (map (λ w. key w) log.now.witnesses.now) log.now.need) step.now.note.now step.now.new.now }
+        (map (λ w. key w) log.now.witnesses.now) log.now.need log.now.since)
+        step.now.note.now step.now.new.now }
     requires grown { IsGrown step.now.old.now step.now.new.now }
     ensures kept { OnOk result (K.has_kept state.new step.now.note.now) }
     ensures printed { OnOk result (PrintedWhole (IsFedNote
         (policy_of policy.now.origin.now (map (λ v. key v) policy.now.log.now)
-        (map (λ w. key w) policy.now.witnesses.now) policy.now.need)
+        (map (λ w. key w) policy.now.witnesses.now) policy.now.need policy.now.since)
         step.now.note.now step.now.new.now) (passage W.contents writer.old writer.new)) }
     ensures part { OnErr result (PrintedSome (IsFedNote
         (policy_of policy.now.origin.now (map (λ v. key v) policy.now.log.now)
-        (map (λ w. key w) policy.now.witnesses.now) policy.now.need)
+        (map (λ w. key w) policy.now.witnesses.now) policy.now.need policy.now.since)
         step.now.note.now step.now.new.now) (passage W.contents writer.old writer.new)) }
     ensures fair { IfErr result IsNoAccusation }
     ensures refused { IfErr result (λ fault. K.may_fail state.old fault
         ⊎ (IsUnfed (policy_of policy.now.origin.now (map (λ v. key v) policy.now.log.now)
-        (map (λ w. key w) policy.now.witnesses.now) policy.now.need) step.now.note.now fault
-        ⊎ (fault ≡ FetchFault.Run RunFault.Write))) }
+        (map (λ w. key w) policy.now.witnesses.now) policy.now.need policy.now.since)
+        step.now.note.now fault ⊎ (fault ≡ FetchFault.Run RunFault.Write))) }
 {
     state.keep(log, step.last, step.note)?;
     let (note, head, known) = (step.note, step.new, step.old.size);
@@ -173,15 +176,15 @@ pub fn feed_under<S: ResourceSource, K: TrustStore, O: Observer, Q: AsksWitnesse
 ) -> Result<(), FetchFault>
     ensures fed { OnOk result ((two : Two) × AreTwo (K.may_have state.old)
         (alone (policy_of policy.now.origin.now (map (λ v. key v) policy.now.log.now)
-        (map (λ w. key w) policy.now.witnesses.now) policy.now.need)) two
+        (map (λ w. key w) policy.now.witnesses.now) policy.now.need policy.now.since)) two
         × HasFed (K.has_kept state.new)
         (policy_of policy.now.origin.now (map (λ v. key v) policy.now.log.now)
-        (map (λ w. key w) policy.now.witnesses.now) policy.now.need) two
+        (map (λ w. key w) policy.now.witnesses.now) policy.now.need policy.now.since) two
         (passage W.contents writer.old writer.new)) }
     ensures refused { IfErr result (λ fault. RefusesFeed (grounds_of (S.may_answer source.now)
         (S.may_lack source.now) (K.may_have state.old) (K.may_fail state.old))
         (policy_of policy.now.origin.now (map (λ v. key v) policy.now.log.now)
-        (map (λ w. key w) policy.now.witnesses.now) policy.now.need) fault
+        (map (λ w. key w) policy.now.witnesses.now) policy.now.need policy.now.since) fault
         (passage W.contents writer.old writer.new)) }
 {
     let log = Policy {
@@ -189,6 +192,7 @@ pub fn feed_under<S: ResourceSource, K: TrustStore, O: Observer, Q: AsksWitnesse
         log: policy.log,
         witnesses: &[],
         need: 0,
+        since: None,
     };
     let (last, now) = match trusted_two(alloc, source, &log, state) {
         Ok(both) => both,

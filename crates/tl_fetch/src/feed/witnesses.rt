@@ -1,11 +1,12 @@
 //! Witnesses that are asked over HTTP.
 
-ghost use Rattle.std.specs.Prelude.{◌≡◌, ◌⊎◌, IfErr, IfOk, string_bytes};
-ghost use Rattle.std.specs.List.{AllZip, Any};
+ghost use Rattle.std.specs.Prelude.{◌≡◌, ◌⊎◌, ◌<◌, ℕ, [], IfErr, IfOk, MatchOption, length, map, slice_index_or, string_bytes};
+ghost use Rattle.std.specs.List.{AllZip};
+ghost use Rattle.tl_fetch.specs.FeedCommand.{IsFirstNoUrl};
 ghost use Rattle.tl_fetch.specs.Inner.Witnesses.{IsAddressOf};
 ghost use Rattle.tl_source.specs.Url.{IsNoUrl};
 
-use crate::fault::FetchFault;
+use crate::fault::{Address, FetchFault};
 use crate::feed::asking::AsksWitnesses;
 use std::alloc::Global;
 use std::io::Write;
@@ -16,17 +17,28 @@ use tl_cosign::{HttpWitness, Unasked};
 use tl_device::Counted;
 use tl_source::Url;
 
-/// The addresses that these texts are. `BadAddress`: one is none over HTTP.
+// The address that the text at this place is, if it is one over HTTP.
+fn address_at(texts: &[String], place: usize) -> Option<Url<'_>>
+    requires { place < length texts.now }
+    ensures { MatchOption result
+        (IsNoUrl (slice_index_or (map string_bytes texts.now) place []))
+        (IsAddressOf (slice_index_or (map string_bytes texts.now) place [])) }
+{
+    Url::parse(texts[place].as_str())
+}
+
+/// The addresses that these texts are. `BadAddress` has the place of the first that is none over HTTP.
 pub(crate) fn addresses(alloc: Global, texts: &[String]) -> Result<Vec<Url<'_>>, FetchFault>
-    ensures read { IfOk result (λ urls. AllZip
-        (λ text url. IsAddressOf (string_bytes text) url) texts.now urls.items) }
+    ensures read { IfOk result
+        (λ urls. AllZip IsAddressOf (map string_bytes texts.now) urls.items) }
     ensures refused { IfErr result (λ fault. (fault ≡ FetchFault.Run RunFault.OutOfMemory)
-        ⊎ ((fault ≡ FetchFault.BadAddress) × Any (λ t. IsNoUrl (string_bytes t)) texts.now)) }
+        ⊎ ((place : ℕ) × (fault ≡ FetchFault.BadAddress (Address.To place))
+        × IsFirstNoUrl (map string_bytes texts.now) place)) }
 {
     let mut urls = Vec::new(alloc);
-    for text in texts {
-        let Some(url) = Url::parse(text.as_str()) else {
-            return Err(FetchFault::BadAddress);
+    for place in 0..texts.len() {
+        let Some(url) = address_at(texts, place) else {
+            return Err(FetchFault::BadAddress(Address::To(place as u64)));
         };
         urls.push(url)?;
     }

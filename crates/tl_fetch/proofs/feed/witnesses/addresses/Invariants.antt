@@ -1,8 +1,7 @@
-use Rattle.std.proofs.Common.{string_bytes, take}
-use Rattle.std.specs.List.{AllZip}
-use Rattle.tl_fetch.specs.Inner.Witnesses.{IsAddressOf}
+use Rattle.std.proofs.Common.{map, string_bytes}
+use Rattle.tl_fetch.proofs.AddressLemmas.{AreReadUpTo}
 use Rattle.tl_fetch.proofs.feed.witnesses.addresses.Given as goal
 
 -- the texts so far are those of the addresses
-abbrev pub invariant-loop-text : goal.invariant-loop-text
-invariant-loop-text l = AllZip (λ text url. IsAddressOf (string_bytes text) url) (take l.text-index l.texts) l.urls.items
+abbrev pub invariant-loop-place : goal.invariant-loop-place
+invariant-loop-place l = AreReadUpTo (map string_bytes l.texts) l.place l.urls.items

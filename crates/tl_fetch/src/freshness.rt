@@ -1,0 +1,135 @@
+//! Whether one of the witnesses cosigned a checkpoint lately enough.
+
+ghost use Rattle.std.specs.Prelude.{IfErr, IfOk, MatchBool, OnOk, map};
+ghost use Rattle.tl_checkpoint.specs.Cosignature.{ChecksCosignature};
+ghost use Rattle.tl_fetch.specs.Command.{IsSinceOf};
+ghost use Rattle.tl_fetch.specs.Faults.{IsNoAccusation};
+ghost use Rattle.tl_fetch.specs.Inner.Freshness.{AllEarly, AreEarly, HasLate, IsEarly, IsLate, RefusesFresh, SomeLate};
+ghost use Rattle.tl_fetch.specs.Trusting.{IsFresh};
+
+use crate::fault::FetchFault;
+use crate::faults::BAD_CHECKPOINT;
+use crate::policy::Policy;
+use std::alloc::{AllocError, Global};
+use std::time::{Clock, SystemTime, UNIX_EPOCH};
+use tl_checkpoint::check_cosignature;
+use tl_command::RunFault;
+use tl_note::{NoteFault, SigView, Verifier, parse_note};
+
+// The seconds since 1970 that the clock reads. If it can't be read, they are the most there are: nothing is fresh then.
+fn seconds_now<H: Clock>(rt: &H) -> u64 {
+    let Ok(now) = SystemTime::now(rt) else {
+        return u64::MAX;
+    };
+    match now.duration_since(UNIX_EPOCH) {
+        Ok(since) => since.as_secs(),
+        Err(_) => u64::MAX,
+    }
+}
+
+/// The time at which or after which a cosignature is fresh: so many seconds before what the clock reads. Without
+/// seconds there is none, and the clock isn't read.
+pub(crate) fn since_of<H: Clock>(rt: &H, fresh: Option<u64>) -> Option<u64>
+    ensures { IsSinceOf fresh result }
+{
+    let Some(seconds) = fresh else {
+        return None;
+    };
+    Some(seconds_now(rt).saturating_sub(seconds))
+}
+
+// The time of the line, where it is a cosignature by the witness.
+fn time_by(
+    alloc: Global,
+    text: &str,
+    line: &SigView<'_>,
+    witness: &Box<dyn Verifier>,
+) -> Result<Option<u64>, AllocError>
+    ensures { IfOk result (ChecksCosignature text.now (key witness.now) line.now) }
+{
+    check_cosignature(alloc, text, line, &**witness)
+}
+
+// Whether the line is a cosignature by the witness, of this time or later.
+fn is_late(
+    alloc: Global,
+    text: &str,
+    line: &SigView<'_>,
+    witness: &Box<dyn Verifier>,
+    since: u64,
+) -> Result<bool, AllocError>
+    ensures { IfOk result (λ late. MatchBool late
+        (IsLate text.now since (key witness.now) line.now)
+        (IsEarly text.now since (key witness.now) line.now)) }
+{
+    let Some(time) = time_by(alloc, text, line, witness)? else {
+        return Ok(false);
+    };
+    Ok(since <= time)
+}
+
+// Whether one of the lines is.
+fn has_line(
+    alloc: Global,
+    text: &str,
+    lines: &[SigView<'_>],
+    witness: &Box<dyn Verifier>,
+    since: u64,
+) -> Result<bool, AllocError>
+    ensures { IfOk result (λ found. MatchBool found
+        (HasLate text.now lines.now since (key witness.now))
+        (AreEarly text.now lines.now since (key witness.now))) }
+{
+    let [first, rest @ ..] = lines else {
+        return Ok(false);
+    };
+    if is_late(alloc, text, first, witness, since)? {
+        return Ok(true);
+    }
+    has_line(alloc, text, rest, witness, since)
+}
+
+// Whether one of the lines is, by one of the witnesses.
+fn has_witness(
+    alloc: Global,
+    text: &str,
+    lines: &[SigView<'_>],
+    witnesses: &[Box<dyn Verifier>],
+    since: u64,
+) -> Result<bool, AllocError>
+    ensures { IfOk result (λ found. MatchBool found
+        (SomeLate text.now lines.now since (map (λ w. key w) witnesses.now))
+        (AllEarly text.now lines.now since (map (λ w. key w) witnesses.now))) }
+{
+    let [first, rest @ ..] = witnesses else {
+        return Ok(false);
+    };
+    if has_line(alloc, text, lines, first, since)? {
+        return Ok(true);
+    }
+    has_witness(alloc, text, lines, rest, since)
+}
+
+/// Checks that one of the witnesses cosigned the note lately enough (C2SP tlog-cosignature). If the policy asks for no
+/// time, the note isn't read.
+pub(crate) fn check_fresh(alloc: Global, policy: &Policy<'_>, note: &str) -> Result<(), FetchFault>
+    ensures fresh { OnOk result
+        (IsFresh note.now (map (λ w. key w) policy.now.witnesses.now) policy.now.since) }
+    ensures fair { IfErr result IsNoAccusation }
+    ensures refused { IfErr result
+        (RefusesFresh note.now (map (λ w. key w) policy.now.witnesses.now) policy.now.since) }
+{
+    let Some(since) = policy.since else {
+        return Ok(());
+    };
+    let view = match parse_note(alloc, note) {
+        Ok(view) => view,
+        Err(NoteFault::Malformed) => return Err(FetchFault::Run(BAD_CHECKPOINT)),
+        Err(_) => return Err(FetchFault::Run(RunFault::OutOfMemory)),
+    };
+    let lines = view.signatures.as_slice();
+    if has_witness(alloc, view.text, lines, policy.witnesses, since)? {
+        return Ok(());
+    }
+    Err(FetchFault::Stale(since))
+}
