@@ -203,10 +203,10 @@ passed over. The witness cosigns by the key in the file of --key, as
 --witness-secret.
 
 Exit status: 0 done; 1 refused (no state there, or one with --new, a bad key, a
-bad origin, a bad name, line K of the logs malformed or with a key again, counted
-from 1, chain K of the input refused, counted from 0, in use, out of memory); 2
-wrong arguments or a call for help; 3 a read, a write, the address or an accept
-failed.
+bad origin, a bad name, line K of the logs malformed or with a key again,
+counted from 1, chain K of the input refused, counted from 0, in use, out of
+memory); 2 wrong arguments or a call for help; 3 a read, a write, the address or
+an accept failed.
 
 Example: tlog witness --origin example.com/log --log-key @key.pub \\
              --key witness-key --state cosigned --new --listen 127.0.0.1:8081";
