@@ -4,7 +4,7 @@ ghost use Rattle.std.specs.Prelude.{◌≡◌, IfOk, IfSome};
 
 use crate::awaited::Awaited;
 use crate::lanes::{EndOf, LaneThread, Sending, Sent, send_one};
-use crate::news::News;
+use crate::signals::Signals;
 use std::alloc::Global;
 use std::io::Read;
 use std::snapshot::Snapshot;
@@ -100,15 +100,15 @@ fn send_line<H: Wait>(
     rt: &H,
     submitter: &mut Submitter<Global, Global>,
     line: NextLine<Global>,
-    news: &News,
+    signals: &Signals,
 ) -> Result<bool, RunFault>
     ensures { (submitter.new.ring ≡ submitter.old.ring)
         × (submitter.new.lane ≡ submitter.old.lane) }
 {
     match line {
-        NextLine::Entry(entry) => Ok(send_one(submitter, entry, news)),
+        NextLine::Entry(entry) => Ok(send_one(submitter, entry, signals)),
         NextLine::TooLong(number) => {
-            news.tell_too_long(rt, number)?;
+            signals.notify_too_long(rt, number)?;
             Ok(true)
         }
     }
@@ -119,7 +119,7 @@ fn send_read<H: Wait, S: Source>(
     rt: &H,
     source: &mut S,
     submitter: &mut Submitter<Global, Global>,
-    news: &News,
+    signals: &Signals,
 ) -> Result<bool, RunFault>
     ensures { (submitter.new.ring ≡ submitter.old.ring)
         × (submitter.new.lane ≡ submitter.old.lane) }
@@ -127,7 +127,7 @@ fn send_read<H: Wait, S: Source>(
     for _ in 0..u64::MAX {
         match source.cut() {
             Ok(Some(line)) => {
-                if !send_line(rt, submitter, line, news)? {
+                if !send_line(rt, submitter, line, signals)? {
                     return Ok(false);
                 }
             }
@@ -143,29 +143,29 @@ fn send_last<H: Wait, S: Source>(
     rt: &H,
     source: &mut S,
     submitter: &mut Submitter<Global, Global>,
-    news: &News,
+    signals: &Signals,
     may_go_on: bool,
 ) -> Result<bool, RunFault>
     ensures { (submitter.new.ring ≡ submitter.old.ring)
         × (submitter.new.lane ≡ submitter.old.lane) }
 {
     if let Some(line) = source.last() {
-        if !send_line(rt, submitter, line, news)? {
+        if !send_line(rt, submitter, line, signals)? {
             return Ok(false);
         }
     }
-    news.tell_end();
+    signals.notify_end();
     Ok(may_go_on)
 }
 
 // Waits for what comes and reads it. What came of that; none where nothing is taken any more, or all connections are
 // answered and the input has ended.
-fn read_next<S: Source>(source: &mut S, news: &News) -> Result<Option<ReadOn>, RunFault> {
+fn read_next<S: Source>(source: &mut S, signals: &Signals) -> Result<Option<ReadOn>, RunFault> {
     for _ in 0..u64::MAX {
-        if news.is_stopped() || (news.is_over() && source.has_ended()) {
+        if signals.is_stopped() || (signals.is_over() && source.has_ended()) {
             break;
         }
-        if source.wait()? && !news.is_stopped() {
+        if source.wait()? && !signals.is_stopped() {
             return Ok(Some(source.read_on()?));
         }
     }
@@ -177,20 +177,20 @@ fn send_lines<H: Wait, S: Source>(
     rt: &H,
     source: &mut S,
     submitter: &mut Submitter<Global, Global>,
-    news: &News,
+    signals: &Signals,
 ) -> Result<(), RunFault>
     ensures { (submitter.new.ring ≡ submitter.old.ring)
         × (submitter.new.lane ≡ submitter.old.lane) }
 {
     let mut goes_on = true;
     for _ in 0..u64::MAX {
-        if !goes_on || !send_read(rt, source, submitter, news)? {
+        if !goes_on || !send_read(rt, source, submitter, signals)? {
             break;
         }
-        goes_on = match read_next(source, news)? {
+        goes_on = match read_next(source, signals)? {
             Some(ReadOn::More) => true,
-            Some(ReadOn::Ended) => send_last(rt, source, submitter, news, true)?,
-            Some(ReadOn::Over) => send_last(rt, source, submitter, news, false)?,
+            Some(ReadOn::Ended) => send_last(rt, source, submitter, signals, true)?,
+            Some(ReadOn::Over) => send_last(rt, source, submitter, signals, false)?,
             None => false,
         };
     }
@@ -198,21 +198,21 @@ fn send_lines<H: Wait, S: Source>(
 }
 
 // Sends each line as it comes, and closes the submitter at the end. A fault is told.
-fn follow<H: Wait, S: Source>(rt: &H, source: S, lane: Sending, news: &News) -> Sent
+fn follow<H: Wait, S: Source>(rt: &H, source: S, lane: Sending, signals: &Signals) -> Sent
     ensures { IfSome result.ended
         (λ e. (e.ring ≡ lane.submitter.ring) × (e.lane ≡ lane.submitter.lane)) }
 {
     let Sending { submitter, .. } = lane;
     let mut submitter = submitter;
     let mut source = source;
-    if let Err(fault) = send_lines(rt, &mut source, &mut submitter, news) {
-        news.tell_fault(rt, fault);
+    if let Err(fault) = send_lines(rt, &mut source, &mut submitter, signals) {
+        signals.report_fault(rt, fault);
     }
     let sent = Sent {
         count: source.count(),
         ended: submitter.close(),
     };
-    news.end_sending();
+    signals.end_sending();
     sent
 }
 
@@ -222,7 +222,7 @@ pub(crate) fn start_following<'s, E, H: Wait + Sync, S: Source + 's>(
     rt: &'s H,
     source: S,
     lane: Sending,
-    news: &'s News,
+    signals: &'s Signals,
 ) -> Result<LaneThread, RunFault>
     ensures { IfOk result (λ h. h.promise.0.value ≡ lane.submitter) }
 {
@@ -230,12 +230,12 @@ pub(crate) fn start_following<'s, E, H: Wait + Sync, S: Source + 's>(
     let job = move || -> Sent
         ensures { IfSome result.ended
             (λ e. (e.ring ≡ lane.submitter.ring) × (e.lane ≡ lane.submitter.lane)) }
-    { follow(rt, source, lane, news) };
-    news.begin_sending();
+    { follow(rt, source, lane, signals) };
+    signals.begin_sending();
     match scope.spawn_with(promise, job) {
         Ok(handle) => Ok(handle),
         Err(_) => {
-            news.end_sending();
+            signals.end_sending();
             Err(RunFault::OutOfMemory)
         }
     }

@@ -5,7 +5,7 @@ ghost use Rattle.std.specs.Prelude.{◌≡◌, All, IfOk, IfSome};
 ghost use Rattle.tl_sequencer.specs.Log.{IsEndOf, IsSenderOf, Log};
 
 use crate::gate::Gate;
-use crate::news::News;
+use crate::signals::Signals;
 use std::alloc::Global;
 use std::snapshot::Snapshot;
 use std::thread;
@@ -45,19 +45,19 @@ pub(crate) type LaneThread = PromisedHandle<Sent, EndOf>;
 pub(crate) fn send_one(
     submitter: &mut Submitter<Global, Global>,
     entry: Vec<u8>,
-    news: &News,
+    signals: &Signals,
 ) -> bool
     ensures { (submitter.new.ring ≡ submitter.old.ring)
         × (submitter.new.lane ≡ submitter.old.lane) }
 {
     let mut entry = entry;
     for _ in 0..u64::MAX {
-        if news.is_stopped() {
+        if signals.is_stopped() {
             return false;
         }
         match submitter.submit(entry) {
             Ok(_) => {
-                news.tell_entries();
+                signals.notify_entries();
                 return true;
             }
             Err(refused) => {
@@ -76,13 +76,13 @@ pub(crate) fn send_one(
 fn send_all(
     submitter: Submitter<Global, Global>,
     entries: Vec<Vec<u8>>,
-    news: &News,
+    signals: &Signals,
 ) -> Option<Ended<Global, Global>>
     ensures { IfSome result (λ e. (e.ring ≡ submitter.ring) × (e.lane ≡ submitter.lane)) }
 {
     let mut submitter = submitter;
     for entry in entries {
-        if !send_one(&mut submitter, entry, news) {
+        if !send_one(&mut submitter, entry, signals) {
             break;
         }
     }
@@ -90,15 +90,15 @@ fn send_all(
 }
 
 // Passes the gate, and then sends the entries of a lane.
-fn send_lane<G: Gate>(gate: &G, lane: Sending, news: &News) -> Sent
+fn send_lane<G: Gate>(gate: &G, lane: Sending, signals: &Signals) -> Sent
     ensures { IfSome result.ended
         (λ e. (e.ring ≡ lane.submitter.ring) × (e.lane ≡ lane.submitter.lane)) }
 {
     let Sending { submitter, entries } = lane;
     let count = entries.len() as u64;
     gate.pass(submitter.lane());
-    let ended = send_all(submitter, entries, news);
-    news.end_sending();
+    let ended = send_all(submitter, entries, signals);
+    signals.end_sending();
     Sent { ended, count }
 }
 
@@ -107,7 +107,7 @@ fn start_lane<'s, E, G: Gate>(
     scope: &'s Scope<'s, E>,
     gate: &'s G,
     lane: Sending,
-    news: &'s News,
+    signals: &'s Signals,
 ) -> Result<LaneThread, RunFault>
     ensures { IfOk result (λ h. h.promise.0.value ≡ lane.submitter) }
 {
@@ -115,12 +115,12 @@ fn start_lane<'s, E, G: Gate>(
     let job = move || -> Sent
         ensures { IfSome result.ended
             (λ e. (e.ring ≡ lane.submitter.ring) × (e.lane ≡ lane.submitter.lane)) }
-    { send_lane(gate, lane, news) };
-    news.begin_sending();
+    { send_lane(gate, lane, signals) };
+    signals.begin_sending();
     match scope.spawn_with(promise, job) {
         Ok(handle) => Ok(handle),
         Err(_) => {
-            news.end_sending();
+            signals.end_sending();
             Err(RunFault::OutOfMemory)
         }
     }
@@ -132,14 +132,14 @@ pub(crate) fn start_lanes<'s, E, G: Gate>(
     alloc: Global,
     gate: &'s G,
     lanes: Vec<Sending>,
-    news: &'s News,
+    signals: &'s Signals,
 ) -> Result<Vec<LaneThread>, RunFault>
     ensures { (log : Log GlobalValue) → All (λ l. IsSenderOf l.submitter log) lanes.items
         → IfOk result (λ threads. All (λ h. IsSenderOf h.promise.0.value log) threads.items) }
 {
     let mut threads = Vec::new(alloc);
     for lane in lanes {
-        let thread = start_lane(scope, gate, lane, news)?;
+        let thread = start_lane(scope, gate, lane, signals)?;
         threads.push(thread)?;
     }
     Ok(threads)

@@ -1,7 +1,7 @@
 //! A witness of the logs that a file names.
 
+use crate::bound_listener::BoundListener;
 use crate::cosigner::{Own, SharedSigner};
-use crate::entrance::Entrance;
 use crate::host::Host;
 use crate::options::WitnessOptions;
 use crate::witness::{own_key, read_chains, serve_trusted};
@@ -45,7 +45,7 @@ fn serve_listed<
     rt: &H,
     alloc: Global,
     options: &WitnessOptions,
-    entrance: Option<&Entrance>,
+    bound: Option<&BoundListener>,
     logs: Vec<KnownLog<Global>>,
     key: Arc<Own>,
     chains: Vec<(String, Vec<Link<Global>>)>,
@@ -67,7 +67,7 @@ fn serve_listed<
             cosigner,
         })?;
     }
-    serve_trusted(rt, alloc, options, entrance, trusts, chains, writer, log)
+    serve_trusted(rt, alloc, options, bound, trusts, chains, writer, log)
 }
 
 /// Serves a witness of the logs that the file at this path names.
@@ -80,7 +80,7 @@ pub(crate) fn run_listed<
     rt: &H,
     alloc: Global,
     options: &WitnessOptions,
-    entrance: Option<&Entrance>,
+    bound: Option<&BoundListener>,
     path: &str,
     reader: &mut Counted<R>,
     writer: &mut Counted<O>,
@@ -93,5 +93,5 @@ pub(crate) fn run_listed<
         Ok(chains) => chains,
         Err(fault) => return Err(WitnessFault::Run(fault)),
     };
-    after_run(serve_listed(rt, alloc, options, entrance, logs, key, chains, writer, log))
+    after_run(serve_listed(rt, alloc, options, bound, logs, key, chains, writer, log))
 }

@@ -144,7 +144,7 @@ fn lanes_of(
 
 /// What each submitter is to send: the entries are dealt out in turn. The last submitter is for entries that are
 /// posted, if these are taken: it is dealt none.
-pub(crate) fn lanes_and_desk(
+pub(crate) fn lanes_with_posts(
     alloc: Global,
     submitters: Vec<Submitter<Global, Global>>,
     entries: Vec<Vec<u8>>,

@@ -3,7 +3,7 @@
 ghost use Rattle.std.specs.Prelude.{◌≡◌, ◌-◌, All};
 ghost use Rattle.tl_sequencer.specs.Log.{IsEndOf};
 ghost use Rattle.tl_device.specs.Device.{passage};
-ghost use Rattle.tl_heart.specs.Order.{Begins};
+ghost use Rattle.tl_loop.specs.Order.{Begins};
 ghost use Rattle.tl_serve.specs.Inner.Carrying.{Carries, CountsEnds, CountsRound, Drives, ShowsTaken, TellsHead, TellsInputEnded, count_event, owed_first, taken_after, told_event};
 ghost use Rattle.tl_serve.specs.Inner.Rounds.{TakesEnds, TakesRound};
 ghost use Rattle.tl_serve.specs.Inner.Running.{StaysRunning};
@@ -15,13 +15,13 @@ use std::alloc::Global;
 use std::io::Write;
 use tl_command::RunFault;
 use tl_device::Counted;
-use tl_heart::{Event, Heart, Step};
+use tl_loop::{Event, PublishLoop, Step};
 use tl_sequencer::Ended;
 
 /// Where the thread that carries steps out learns what happens beside it.
 pub(crate) trait Feed {
     ghost use Rattle.tl_command.specs.declared.fault.RunFault.{RunFault};
-    ghost use Rattle.tl_heart.specs.declared.heart.Event.{Event};
+    ghost use Rattle.tl_loop.specs.declared.publish_loop.Event.{Event};
 
     /// What waiting makes of it, by what happened.
     ghost gives: { Self → Self → Event RunFault → Type 0 };
@@ -136,15 +136,15 @@ impl<O: LiveLog> Running<O> {
     }
 
     /// What a log that is served does first: it publishes what is due, or else tells what was published.
-    pub(crate) fn begin(&self) -> Heart<RunFault>
+    pub(crate) fn begin(&self) -> PublishLoop<RunFault>
         ensures begins { Begins result (owed_first self.now.was_due) }
         ensures batch { (result.batch ≡ self.now.rounds.batch) × (result.left ≡ self.now.rounds.batch) }
     {
         let Rounds { batch, gathers, .. } = self.rounds;
         if self.was_due {
-            Heart::owing(batch, gathers)
+            PublishLoop::owing(batch, gathers)
         } else {
-            Heart::serving(batch, gathers)
+            PublishLoop::serving(batch, gathers)
         }
     }
 
@@ -232,8 +232,8 @@ impl<O: LiveLog> Running<O> {
     }
 
     // How many entries that were taken are published, where others wait for more.
-    fn pending(&self, heart: Heart<RunFault>) -> Option<u64> {
-        if heart.has_new {
+    fn pending(&self, publish_loop: PublishLoop<RunFault>) -> Option<u64> {
+        if publish_loop.has_new {
             Some(self.published)
         } else {
             None
@@ -244,19 +244,19 @@ impl<O: LiveLog> Running<O> {
     fn carry_out<F: Feed, L: Write>(
         &mut self,
         alloc: Global,
-        heart: Heart<RunFault>,
+        publish_loop: PublishLoop<RunFault>,
         feed: &mut F,
         out: &mut Counted<L>,
     ) -> Option<Event<RunFault>>
         requires { O.holds self.old.log }
         ensures kept { StaysRunning O.holds O.log O.begun self.old.log self.new.log }
-        ensures carried { Carries O.log O.shows O.heads F.gives L.contents heart
+        ensures carried { Carries O.log O.shows O.heads F.gives L.contents publish_loop
             (record { running = self.old; feed = feed.old; out = out.old })
             (record { running = self.new; feed = feed.new; out = out.new }) result }
     {
-        match heart.step() {
-            Step::Wait => Some(feed.wait(self.pending(heart))),
-            Step::Take => Some(self.take(heart.left, feed)),
+        match publish_loop.step() {
+            Step::Wait => Some(feed.wait(self.pending(publish_loop))),
+            Step::Take => Some(self.take(publish_loop.left, feed)),
             Step::Publish => Some(self.publish(feed)),
             Step::TellHead => Some(self.tell_head(alloc, out)),
             Step::TellTooLong(line) => Some(done(tell_too_long(alloc, out, line))),
@@ -269,24 +269,24 @@ impl<O: LiveLog> Running<O> {
     pub(crate) fn drive<F: Feed, L: Write>(
         &mut self,
         alloc: Global,
-        heart: Heart<RunFault>,
+        publish_loop: PublishLoop<RunFault>,
         feed: &mut F,
         out: &mut Counted<L>,
-    ) -> Heart<RunFault>
+    ) -> PublishLoop<RunFault>
         requires { O.holds self.old.log }
         ensures kept { StaysRunning O.holds O.log O.begun self.old.log self.new.log }
-        ensures driven { Drives O.log O.shows O.heads F.gives L.contents heart
+        ensures driven { Drives O.log O.shows O.heads F.gives L.contents publish_loop
             (record { running = self.old; feed = feed.old; out = out.old })
             (record { running = self.new; feed = feed.new; out = out.new }) result }
     {
-        let mut heart = heart;
+        let mut publish_loop = publish_loop;
         for _ in 0..u64::MAX {
-            let Some(event) = self.carry_out(alloc, heart, feed, out) else {
+            let Some(event) = self.carry_out(alloc, publish_loop, feed, out) else {
                 break;
             };
-            heart = heart.after(event);
+            publish_loop = publish_loop.after(event);
         }
-        heart
+        publish_loop
     }
 
     /// Tells how many of so many lines were not published, if any weren't.

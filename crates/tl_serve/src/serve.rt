@@ -6,14 +6,14 @@ ghost use Rattle.tl_publisher.specs.Operating.{IsOperating};
 ghost use Rattle.tl_sequencer.specs.Log.{IsSenderOf, rings_of};
 ghost use Rattle.tl_command.specs.Origins.{RefusesOrigin};
 
-use crate::entrance::{Entrance, Site};
+use crate::bound_listener::{BoundListener, Site};
 use crate::gate::{Gate, OpenGate};
 use crate::host::Host;
 use crate::live_log::MOST_ENTRIES;
 use crate::memory_log::{BoardLog, MemoryLog};
-use crate::opening::{bundles_of, lanes_and_desk, read_plan, size_of, with_newline};
+use crate::opening::{bundles_of, lanes_with_posts, read_plan, size_of, with_newline};
 use crate::options::ServeOptions;
-use crate::pages::OnBoard;
+use crate::resources::OnBoard;
 use crate::running::Running;
 use crate::server::{Base, Server};
 use crate::serving::{Ran, check_closing, tell_end};
@@ -80,16 +80,16 @@ fn publish_first<O: BoardLog>(
 }
 
 // What each thread answers from.
-fn pages_of(
+fn resources_of(
     alloc: Global,
     readers: Vec<BoardReader<Global>>,
     is_open: bool,
 ) -> Result<Vec<OnBoard>, AllocError> {
-    let mut pages = Vec::new(alloc);
+    let mut resources = Vec::new(alloc);
     for board in readers {
-        pages.push(OnBoard { board, is_open })?;
+        resources.push(OnBoard { board, is_open })?;
     }
-    Ok(pages)
+    Ok(resources)
 }
 
 impl<H: Host + Net<Listener = TcpListener, Stream = TcpStream>, G: Gate> Server<'_, H, G> {
@@ -111,27 +111,34 @@ impl<H: Host + Net<Listener = TcpListener, Stream = TcpStream>, G: Gate> Server<
     {
         let mut operator = opened;
         let takes_posts = self.options.takes_posts;
-        let lanes = lanes_and_desk(self.alloc, submitters, entries, takes_posts)?;
-        let entrance = Entrance::open(self.rt, self.alloc, &self.options.server, out)?;
+        let lanes = lanes_with_posts(self.alloc, submitters, entries, takes_posts)?;
+        let bound = BoundListener::bind(self.rt, self.alloc, &self.options.server, out)?;
         let mut readers = publish_first(&mut operator, readers)?;
         let Some(board) = readers.pop() else {
             return Err(RunFault::Operator);
         };
-        let pages = pages_of(self.alloc, readers, takes_posts)?;
+        let resources = resources_of(self.alloc, readers, takes_posts)?;
         let log = MemoryLog { operator, board };
         let base = Base {
             size: before,
             is_due: false,
             remembered: self.remembered(),
         };
-        let site = Site::new(&entrance, self.input);
-        let Ran { running, heart } = self.serve_published(
-            &site, log, base, lanes, pages, lines, reader, out,
-        );
-        let heart = check_closing(heart)?;
+        let site = Site::new(&bound, self.input);
+        let Ran {
+            running,
+            publish_loop,
+        } = self.serve_published(&site, log, base, lanes, resources, lines, reader, out);
+        let publish_loop = check_closing(publish_loop)?;
         let Running { log, .. } = running;
         let size = log.operator.finish()?;
-        tell_end(self.alloc, heart, size, self.options.server.quiet, out)
+        tell_end(
+            self.alloc,
+            publish_loop,
+            size,
+            self.options.server.quiet,
+            out,
+        )
     }
 
     // Serves a log in memory that begins with no entry.

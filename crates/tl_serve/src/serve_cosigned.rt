@@ -8,8 +8,8 @@ ghost use Rattle.tl_serve.specs.Asking.{AreKeysOf, ServesCosigned};
 ghost use Rattle.tl_serve.specs.Serving.{IsLeft, Serves};
 
 use crate::asked::{keys_of_asked, urls_of_asked};
+use crate::bound_listener::Site;
 use crate::cosigners::{Asking, AsksInRounds, Proposer, start_asking};
-use crate::entrance::Site;
 use crate::host::Host;
 use crate::options::ServeOptions;
 use crate::serve_shelf::{Served, run_serve_shelf};

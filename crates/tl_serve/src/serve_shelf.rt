@@ -12,14 +12,14 @@ ghost use Rattle.tl_append.specs.Running.{BeginsAsAsked, IsStart, visit};
 ghost use Rattle.tl_serve.specs.Serving.{IsLeft, Serves};
 ghost use Rattle.tl_serve.specs.Inner.Shelved.{IsClosed, ServesUnder};
 
-use crate::entrance::Site;
+use crate::bound_listener::Site;
 use crate::gate::OpenGate;
 use crate::host::Host;
 use crate::lanes::Sending;
 use crate::live_log::{LiveLog, MOST_ENTRIES};
-use crate::opening::{Plan, lanes_and_desk, read_plan};
+use crate::opening::{Plan, lanes_with_posts, read_plan};
 use crate::options::ServeOptions;
-use crate::pages::OnShelf;
+use crate::resources::OnShelf;
 use crate::running::Running;
 use crate::server::{Base, Server};
 use crate::serving::{Ran, check_closing, tell_end};
@@ -31,9 +31,9 @@ use tl_append::{LogKeys, LogOpeningKey, LogShelf, OpenedLog, check_asked, check_
 use tl_archive::Shelf;
 use tl_command::RunFault;
 use tl_device::Counted;
-use tl_heart::Heart;
 use tl_ledger::Found;
 use tl_lines::Lines;
+use tl_loop::PublishLoop;
 use tl_note::is_key_name;
 use tl_sequencer::{Intake, OpenFault, Submitter};
 
@@ -47,16 +47,16 @@ pub struct Served<S> {
 }
 
 // What each thread answers from.
-fn pages_of<P: Drop>(
+fn resources_of<P: Drop>(
     alloc: Global,
     shown: Vec<P>,
     is_open: bool,
 ) -> Result<Vec<OnShelf<P>>, AllocError> {
-    let mut pages = Vec::new(alloc);
+    let mut resources = Vec::new(alloc);
     for shelf in shown {
-        pages.push(OnShelf { shelf, is_open })?;
+        resources.push(OnShelf { shelf, is_open })?;
     }
-    Ok(pages)
+    Ok(resources)
 }
 
 // The lanes of a log that has so many entries already, and their submitters.
@@ -85,7 +85,7 @@ struct Opened<P> {
     log: OpenedLog,
     intake: Intake<Global, Global>,
     lanes: Vec<Sending>,
-    pages: Vec<OnShelf<P>>,
+    resources: Vec<OnShelf<P>>,
     lines: Lines<Global>,
 }
 
@@ -132,36 +132,36 @@ fn open_log<S: LogShelf + Drop, P: Drop, R: Read>(
         Err(fault) => return Err(fault),
     };
     let Plan { entries, lines, .. } = plan;
-    let lanes = lanes_and_desk(alloc, submitters, entries, options.takes_posts)?;
-    let pages = pages_of(alloc, shown, options.takes_posts)?;
+    let lanes = lanes_with_posts(alloc, submitters, entries, options.takes_posts)?;
+    let resources = resources_of(alloc, shown, options.takes_posts)?;
     Ok(Opened {
         log,
         intake,
         lanes,
-        pages,
+        resources,
         lines,
     })
 }
 
-// Closes a log that ran, where its heart says so, and tells that.
+// Closes a log that ran, where its publish_loop says so, and tells that.
 fn close<S: LogShelf + Drop, L: Write>(
     alloc: Global,
     log: &ShelfLog<S>,
-    heart: Result<Heart<RunFault>, RunFault>,
+    publish_loop: Result<PublishLoop<RunFault>, RunFault>,
     is_quiet: bool,
     out: &mut Counted<L>,
 ) -> Result<(), RunFault>
     ensures { OnOk result (IsClosed log.now.intake log.now.is_due) }
 {
-    let heart = match check_closing(heart) {
-        Ok(heart) => heart,
+    let publish_loop = match check_closing(publish_loop) {
+        Ok(publish_loop) => publish_loop,
         Err(fault) => return Err(fault),
     };
     let size = match log.finish() {
         Ok(size) => size,
         Err(fault) => return Err(fault),
     };
-    tell_end(alloc, heart, size, is_quiet, out)
+    tell_end(alloc, publish_loop, size, is_quiet, out)
 }
 
 // What a log of so many entries on a shelf has, which may be due: the last of them are remembered, if any are.
@@ -223,7 +223,7 @@ fn serve_under<
         log,
         intake,
         lanes,
-        pages,
+        resources,
         lines,
     } = opened;
     let OpenedLog { ledger, is_due } = log;
@@ -234,10 +234,11 @@ fn serve_under<
         let (shelf, outcome) = (log.into_shelf(), Err(fault));
         return Served { shelf, outcome };
     }
-    let Ran { running, heart } = server.serve_published(
-        site, log, base, lanes, pages, lines, reader, out,
-    );
-    let outcome = close(alloc, &running.log, heart, options.server.quiet, out);
+    let Ran {
+        running,
+        publish_loop,
+    } = server.serve_published(site, log, base, lanes, resources, lines, reader, out);
+    let outcome = close(alloc, &running.log, publish_loop, options.server.quiet, out);
     let Running { log, .. } = running;
     let shelf = log.into_shelf();
     Served { shelf, outcome }

@@ -5,21 +5,21 @@ ghost use Rattle.tl_sequencer.specs.Log.{IsSenderOf};
 ghost use Rattle.tl_serve.specs.Inner.Running.{StaysRunning};
 
 use crate::awaited::Awaited;
-use crate::desk::Desk;
-use crate::door::Door;
-use crate::entrance::{Entrance, Site};
+use crate::bound_listener::{BoundListener, Site};
 use crate::following::Followed;
 use crate::gate::Gate;
 use crate::host::Host;
 use crate::lanes::Sending;
+use crate::listener::Listener;
 use crate::live_log::LiveLog;
-use crate::news::News;
 use crate::options::ServeOptions;
-use crate::pages::Pages;
 use crate::remembered::Remembered;
+use crate::resources::Resources;
 use crate::running::{Rounds, Running};
 use crate::serve::threads_of;
 use crate::serving::{Common, Ran, run_log};
+use crate::signals::Signals;
+use crate::submit_queue::SubmitQueue;
 use crate::telling::tell_in_memory;
 use mio::Waker;
 use std::alloc::Global;
@@ -54,12 +54,12 @@ pub(crate) struct Base {
     pub(crate) remembered: Remembered,
 }
 
-// What a log is served with beside its pages.
+// What a log is served with beside its resources.
 #[derive(Drop)]
 struct Prepared<'r, R> {
     followed: Option<Followed<'r, R>>,
-    news: News,
-    door: Door,
+    signals: Signals,
+    listener: Listener,
 }
 
 impl<H: Host + Net<Listener = TcpListener, Stream = TcpStream>, G: Gate> Server<'_, H, G> {
@@ -97,20 +97,20 @@ impl<H: Host + Net<Listener = TcpListener, Stream = TcpStream>, G: Gate> Server<
         }
     }
 
-    // Opens the door, and tells where it is, and whether the log is in memory alone.
-    fn open_door<L: Write>(
+    // Opens the listener, and tells where it is, and whether the log is in memory alone.
+    fn open_listener<L: Write>(
         &self,
-        entrance: &Entrance,
+        bound: &BoundListener,
         threads: usize,
         log: &mut Counted<L>,
-    ) -> Result<Door, RunFault> {
+    ) -> Result<Listener, RunFault> {
         let threads = u32::try_from(threads).unwrap_or(u32::MAX);
         let server = &self.options.server;
-        let door = Door::open(self.rt, self.alloc, server, entrance, threads, log)?;
+        let listener = Listener::open(self.rt, self.alloc, server, bound, threads, log)?;
         if self.options.dir.is_none() && !server.quiet {
             tell_in_memory(log)?;
         }
-        Ok(door)
+        Ok(listener)
     }
 
     // The lines that are followed, if any are, and what wakes the thread that waits for them.
@@ -133,8 +133,8 @@ impl<H: Host + Net<Listener = TcpListener, Stream = TcpStream>, G: Gate> Server<
         Ok((Some(followed), Some(waker)))
     }
 
-    // The desk, if entries are taken that are posted, whose lane is the last of so many.
-    fn open_desk(&self, base: Base, lanes: usize) -> Result<Option<Desk>, RunFault> {
+    // The queue, if entries are taken that are posted, whose lane is the last of so many.
+    fn open_queue(&self, base: Base, lanes: usize) -> Result<Option<SubmitQueue>, RunFault> {
         if !self.options.takes_posts {
             return Ok(None);
         }
@@ -146,11 +146,11 @@ impl<H: Host + Net<Listener = TcpListener, Stream = TcpStream>, G: Gate> Server<
             remembered,
         } = base;
         let shown = if is_due { 0 } else { size };
-        let desk = Desk::new(self.rt, self.alloc, lane, room, shown, remembered)?;
-        Ok(Some(desk))
+        let queue = SubmitQueue::new(self.rt, self.alloc, lane, room, shown, remembered)?;
+        Ok(Some(queue))
     }
 
-    // What a log is served with beside its pages: what is followed, what the threads tell, and the door.
+    // What a log is served with beside its resources: what is followed, what the threads tell, and the listener.
     fn prepare<'r, R: Read + Send, L: Write>(
         &self,
         site: &Site<'_>,
@@ -162,17 +162,17 @@ impl<H: Host + Net<Listener = TcpListener, Stream = TcpStream>, G: Gate> Server<
         out: &mut Counted<L>,
     ) -> Result<Prepared<'r, R>, RunFault> {
         let (followed, following) = self.follow(lines, reader)?;
-        let desk = self.open_desk(base, lanes)?;
+        let queue = self.open_queue(base, lanes)?;
         let ballot = match site.ballot {
             Some(ballot) => Some(Arc::try_clone(ballot)?),
             None => None,
         };
-        let news = News::new(self.rt, self.alloc, following, desk, ballot)?;
-        let door = self.open_door(site.entrance, threads, out)?;
+        let signals = Signals::new(self.rt, self.alloc, following, queue, ballot)?;
+        let listener = self.open_listener(site.bound, threads, out)?;
         Ok(Prepared {
             followed,
-            news,
-            door,
+            signals,
+            listener,
         })
     }
 
@@ -187,13 +187,13 @@ impl<H: Host + Net<Listener = TcpListener, Stream = TcpStream>, G: Gate> Server<
     }
 
     /// Serves a log at a site that was published, or is due, and hands it back.
-    pub(crate) fn serve_published<O: LiveLog, P: Pages + Send, R: Read + Send, L: Write>(
+    pub(crate) fn serve_published<O: LiveLog, P: Resources + Send, R: Read + Send, L: Write>(
         &self,
         site: &Site<'_>,
         log: O,
         base: Base,
         lanes: Vec<Sending>,
-        pages: Vec<P>,
+        resources: Vec<P>,
         lines: Lines<Global>,
         reader: &mut Counted<R>,
         out: &mut Counted<L>,
@@ -206,25 +206,25 @@ impl<H: Host + Net<Listener = TcpListener, Stream = TcpStream>, G: Gate> Server<
         let running = Running::new(log, self.rounds(base.size, count), base.is_due);
         let Prepared {
             followed,
-            news,
-            door,
-        } = match self.prepare(site, base, count, lines, reader, pages.len(), out) {
+            signals,
+            listener,
+        } = match self.prepare(site, base, count, lines, reader, resources.len(), out) {
             Ok(prepared) => prepared,
             Err(fault) => {
                 return Ran {
                     running,
-                    heart: Err(fault),
+                    publish_loop: Err(fault),
                 };
             }
         };
         let common = Common {
             rt: self.rt,
             alloc: self.alloc,
-            door: &door,
+            listener: &listener,
             gate: self.gate,
-            news: &news,
+            signals: &signals,
             interval: self.options.interval,
         };
-        run_log(common, running, pages, lanes, followed, out)
+        run_log(common, running, resources, lanes, followed, out)
     }
 }

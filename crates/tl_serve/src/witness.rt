@@ -9,8 +9,8 @@ ghost use Rattle.tl_command.specs.Origins.{RefusesOrigin};
 ghost use Rattle.tl_serve.specs.Inner.Stating.{HaveState, LackState, ReadsLines};
 ghost use Rattle.tl_serve.specs.Knowing.{RefusesLog};
 
+use crate::bound_listener::BoundListener;
 use crate::cosigner::Own;
-use crate::entrance::Entrance;
 use crate::host::Host;
 use crate::listed::run_listed;
 use crate::options::{KnownLogs, LogVerifierKey, WitnessOptions, WitnessSignerKey};
@@ -83,7 +83,7 @@ pub(crate) fn serve_trusted<
     rt: &H,
     alloc: Global,
     options: &WitnessOptions,
-    entrance: Option<&Entrance>,
+    bound: Option<&BoundListener>,
     trusts: Vec<Trust<Global>>,
     chains: Vec<(String, Vec<Link<Global>>)>,
     writer: &mut Counted<O>,
@@ -96,7 +96,7 @@ pub(crate) fn serve_trusted<
     let Ok(witness) = SharedWitness::new(book) else {
         return Err(RunFault::OutOfMemory);
     };
-    serve_all(rt, alloc, options, entrance, &witness, writer, log)
+    serve_all(rt, alloc, options, bound, &witness, writer, log)
 }
 
 // Whom a witness trusts that knows one log by this key and cosigns by that one.
@@ -185,7 +185,7 @@ fn run_one<
     rt: &H,
     alloc: Global,
     options: &WitnessOptions,
-    entrance: Option<&Entrance>,
+    bound: Option<&BoundListener>,
     origin: &str,
     key: &LogVerifierKey,
     reader: &mut Counted<R>,
@@ -210,10 +210,10 @@ fn run_one<
         Own::Private(key) => Box::new(alloc, key)?,
     };
     let trusts = trust_of(alloc, origin, verifier, cosigner)?;
-    serve_trusted(rt, alloc, options, entrance, trusts, chains, writer, log)
+    serve_trusted(rt, alloc, options, bound, trusts, chains, writer, log)
 }
 
-/// Serves a witness over HTTP, at this entrance, if there is one, or else at the address of the options: reads the lines
+/// Serves a witness over HTTP, at this bound, if there is one, or else at the address of the options: reads the lines
 /// that an earlier run printed, tells the address, then answers connections, each by `tl_server::serve_witness`, and
 /// ends after as many as the options say, or once something fails. A line for each checkpoint that it cosigns anew is
 /// printed before the answer; where that fails, it ends. Lines of logs that a file doesn't name are passed over. It may
@@ -227,7 +227,7 @@ pub fn run_witness<
     rt: &H,
     alloc: Global,
     options: &WitnessOptions,
-    entrance: Option<&Entrance>,
+    bound: Option<&BoundListener>,
     reader: &mut Counted<R>,
     writer: &mut Counted<O>,
     log: &mut Counted<L>,
@@ -236,10 +236,10 @@ pub fn run_witness<
 {
     match &options.logs {
         KnownLogs::One(origin, key) => after_run(run_one(
-            rt, alloc, options, entrance, origin, key, reader, writer, log,
+            rt, alloc, options, bound, origin, key, reader, writer, log,
         )),
         KnownLogs::Listed(path) => {
-            run_listed(rt, alloc, options, entrance, path, reader, writer, log)
+            run_listed(rt, alloc, options, bound, path, reader, writer, log)
         }
     }
 }

@@ -14,8 +14,8 @@ use Rattle.tl_server.specs.Answer.{Answer, bare, busy, not_allowed, plain_text, 
 use Rattle.tl_server.specs.Exchange.{Begun}
 use Rattle.tl_server.specs.Head.{IsSized, HasBody}
 use Rattle.tl_server.specs.Log.{ResourceAnswers, LooksUp, ReadsShelf}
-use Rattle.tl_server.specs.declared.adding.Told.{Told}
-use Rattle.tl_server.specs.declared.adding.Told.TheVariants as told
+use Rattle.tl_server.specs.declared.adding.EntryStatus.{EntryStatus}
+use Rattle.tl_server.specs.declared.adding.EntryStatus.TheVariants as entry_status
 
 -- what becomes of a request
 pub data Course : Type 0 where
@@ -79,13 +79,13 @@ PlaceAnswers Unseen Gives Looks index size entry c =
     ⊎ (LacksEntry seen (index % 256) entry a × (c ≡ Misplace)))))
 
 -- the same for what was told of an entry
-abbrev pub ToldAnswers
+abbrev pub StatusAnswers
     : Type 0 → (Resource → Answer → Type 0) → (ℕ → ℕ → ℕ → Answer → Type 0)
-    → Bytes → Told → Course → Type 0
-ToldAnswers Unseen Gives Looks entry told.Later c = Unseen × (c ≡ Postpone)
-ToldAnswers Unseen Gives Looks entry told.Refused c = Unseen × (c ≡ Reply busy)
-ToldAnswers Unseen Gives Looks entry told.NoMemory c = Unseen × (c ≡ Reply (bare 500))
-ToldAnswers Unseen Gives Looks entry (told.At index size) c = PlaceAnswers Unseen Gives Looks index size entry c
+    → Bytes → EntryStatus → Course → Type 0
+StatusAnswers Unseen Gives Looks entry entry_status.Later c = Unseen × (c ≡ Postpone)
+StatusAnswers Unseen Gives Looks entry entry_status.Refused c = Unseen × (c ≡ Reply busy)
+StatusAnswers Unseen Gives Looks entry entry_status.NoMemory c = Unseen × (c ≡ Reply (bare 500))
+StatusAnswers Unseen Gives Looks entry (entry_status.At index size) c = PlaceAnswers Unseen Gives Looks index size entry c
 
 -- the table of a log that takes entries, of which the first row that applies decides:
 --     as of a log  the target isn't /add
@@ -104,10 +104,10 @@ ToldAnswers Unseen Gives Looks entry (told.At index size) c = PlaceAnswers Unsee
 -- Unasked says that nobody was asked where an entry is, Tells that one call told this of an entry, Unseen that no page
 -- was looked at, Gives what a GET of a page is answered with, Looks what looking for a bundle gave
 abbrev pub OpenDecides
-    : Type 0 → (Bytes → Told → Type 0)
+    : Type 0 → (Bytes → EntryStatus → Type 0)
     → Type 0 → (Resource → Answer → Type 0) → (ℕ → ℕ → ℕ → Answer → Type 0)
     → Begun → Course → Type 0
-OpenDecides Unasked Tells Unseen Gives Looks b c =
+OpenDecides Unasked Submits Unseen Gives Looks b c =
     Unless (b.head.target ≡ codes "/add")
     (Unasked × ((a : Answer) × ResourceAnswers Unseen Gives b.head.method b.head.target a × (c ≡ Reply a)))
     (Unless (b.head.method ≡ codes "POST") (Unasked × Unseen × (c ≡ Reply (not_allowed (codes "POST"))))
@@ -115,18 +115,18 @@ OpenDecides Unasked Tells Unseen Gives Looks b c =
     Unless (n ≤ most_entry) (Unasked × Unseen × (c ≡ Reply (bare 413)))
     (((0 < n) × (Unasked × Unseen × (c ≡ Reply (bare 500))))
     ⊎ UnlessSome (HasBody b.rest n) (Unasked × Unseen × (c ≡ Reply (bare 400))) (λ entry.
-    (told : Told) × Tells entry told × ToldAnswers Unseen Gives Looks entry told c)))))
+    (entry_status : EntryStatus) × Submits entry entry_status × StatusAnswers Unseen Gives Looks entry entry_status c)))))
 
 -- the same over a board
-abbrev pub OpenLogDecides : Type 0 → Type 0 → (Bytes → Told → Type 0) → Past → Past → Begun → Course → Type 0
-OpenLogDecides A Unasked Tells old new =
-    OpenDecides Unasked Tells (new ≡ old) (LooksUp A old new) (LooksOnce (LooksUp A old new))
+abbrev pub OpenLogDecides : Type 0 → Type 0 → (Bytes → EntryStatus → Type 0) → Past → Past → Begun → Course → Type 0
+OpenLogDecides A Unasked Submits old new =
+    OpenDecides Unasked Submits (new ≡ old) (LooksUp A old new) (LooksOnce (LooksUp A old new))
 
 -- the same over a shelf
 abbrev pub OpenShelfDecides
-    : Type 0 → Type 0 → (Bytes → Told → Type 0)
+    : Type 0 → Type 0 → (Bytes → EntryStatus → Type 0)
     → Bool → Held → (Resource → ShelfFault → Type 0)
     → Begun → Course → Type 0
-OpenShelfDecides A Unasked Tells is_honest held MayFail =
-    OpenDecides Unasked Tells (Unit {0}) (ReadsShelf A is_honest held MayFail)
+OpenShelfDecides A Unasked Submits is_honest held MayFail =
+    OpenDecides Unasked Submits (Unit {0}) (ReadsShelf A is_honest held MayFail)
     (LooksTwice (ReadsShelf A is_honest held MayFail))

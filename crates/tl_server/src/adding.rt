@@ -2,7 +2,7 @@
 
 /// What is told of an entry that was handed in.
 #[derive(Clone, Copy, Debug, PartialEq, Eq)]
-pub enum Told {
+pub enum EntryStatus {
     /// Its place isn't known yet: the request is to be answered later.
     Later,
     /// The log takes nothing now, or hasn't published it in time.
@@ -14,17 +14,17 @@ pub enum Told {
 }
 
 /// Who hands an entry in, and tells its place. Nothing is known of what it tells.
-pub trait Teller {
+pub trait Submits {
     ghost use Rattle.tl_hash.specs.Bytes.{Bytes};
-    ghost use Rattle.tl_server.specs.declared.adding.Told.{Told};
+    ghost use Rattle.tl_server.specs.declared.adding.EntryStatus.{EntryStatus};
 
     /// What one call tells of an entry, before and after it. An `impl` need not say anything of it: contracts say by it
     /// that what is answered was told, by one call.
-    ghost tells: { Self → Self → Bytes → Told → Type 0 } = { λ _ _ _ _. Unit {0} };
+    ghost submits: { Self → Self → Bytes → EntryStatus → Type 0 } = { λ _ _ _ _. Unit {0} };
 
     /// Hands this entry in, or tells what came of it since.
-    fn tell(&mut self, entry: &[u8]) -> Told
-        ensures { tells self.old self.new entry.now result };
+    fn submit(&mut self, entry: &[u8]) -> EntryStatus
+        ensures { submits self.old self.new entry.now result };
 }
 
 /// What came of a request to a log that takes entries.

@@ -5,13 +5,13 @@ use Rattle.std.specs.Option.{unwrap_or}
 use Rattle.tl_hash.specs.declared.head.Head.{Head}
 use Rattle.tl_hash.specs.Bytes.{Bytes}
 use Rattle.tl_device.specs.Device.{Counted, IsUnwritten, Passage, passage}
-use Rattle.tl_heart.specs.declared.heart.Event.{Event}
-use Rattle.tl_heart.specs.declared.heart.Event.TheVariants as event
-use Rattle.tl_heart.specs.declared.heart.Step.{Step}
-use Rattle.tl_heart.specs.declared.heart.Step.TheVariants as step
-use Rattle.tl_heart.specs.declared.heart.Heart.{Heart}
-use Rattle.tl_heart.specs.Heart.{after, step_of}
-use Rattle.tl_heart.specs.Order.{Owed, after_all, publication, telling}
+use Rattle.tl_loop.specs.declared.publish_loop.Event.{Event}
+use Rattle.tl_loop.specs.declared.publish_loop.Event.TheVariants as event
+use Rattle.tl_loop.specs.declared.publish_loop.Step.{Step}
+use Rattle.tl_loop.specs.declared.publish_loop.Step.TheVariants as step
+use Rattle.tl_loop.specs.declared.publish_loop.PublishLoop.{PublishLoop}
+use Rattle.tl_loop.specs.PublishLoop.{after, step_of}
+use Rattle.tl_loop.specs.Order.{Owed, after_all, publication, telling}
 use Rattle.tl_sequencer.specs.Log.{End, Log}
 use Rattle.tl_command.specs.declared.fault.RunFault.{RunFault}
 use Rattle.tl_serve.specs.declared.running.Running.{Running}
@@ -102,7 +102,7 @@ pub record Moment (O F L : Type 0) : Type 0 where
 
 -- whether a step is carried out by this thread alone
 abbrev pub is_own : {X : Type 0} → Step X → Bool
-is_own step.CloseDoor = false
+is_own step.CloseListener = false
 is_own step.TakeRest = false
 is_own step.CloseLog = false
 is_own (step.TellClosed size) = false
@@ -124,20 +124,20 @@ module _ {O F L A : Type 0} (log_of : O → Log A) (Shows : O → O → Result B
       (n ≡ record m { out = n.out }) × TellsInputEnded m.running.rounds.word (passage contents m.out n.out) e
   Does _ left m n e = ⊥
 
-  -- the step of a heart is carried out; or it is another thread's, too, and nothing is done
-  abbrev pub Carries : Heart RunFault → Moment O F L → Moment O F L → Option (Event RunFault) → Type 0
-  Carries heart m n (Some e) = Does (step_of heart.doing) heart.left m n e
-  Carries heart m n None = (is_own (step_of heart.doing) ≡ false) × (n ≡ m)
+  -- the step of a publish_loop is carried out; or it is another thread's, too, and nothing is done
+  abbrev pub Carries : PublishLoop RunFault → Moment O F L → Moment O F L → Option (Event RunFault) → Type 0
+  Carries publish_loop m n (Some e) = Does (step_of publish_loop.doing) publish_loop.left m n e
+  Carries publish_loop m n None = (is_own (step_of publish_loop.doing) ≡ false) × (n ≡ m)
 
-  -- the steps that a heart comes to by these events were carried out, one after another, and these events came of them
-  abbrev pub DoesAll : Heart RunFault → List (Event RunFault) → Moment O F L → Moment O F L → Type 0
-  DoesAll heart [] m n = n ≡ m
-  DoesAll heart (e ∷ more) m n =
-      (k : Moment O F L) × Does (step_of heart.doing) heart.left m k e × DoesAll (after heart e) more k n
+  -- the steps that a publish_loop comes to by these events were carried out, one after another, and these events came of them
+  abbrev pub DoesAll : PublishLoop RunFault → List (Event RunFault) → Moment O F L → Moment O F L → Type 0
+  DoesAll publish_loop [] m n = n ≡ m
+  DoesAll publish_loop (e ∷ more) m n =
+      (k : Moment O F L) × Does (step_of publish_loop.doing) publish_loop.left m k e × DoesAll (after publish_loop e) more k n
 
   -- steps were carried out, one after another, up to one that isn't this thread's alone, unless they were 2^64 - 1
-  pub record Drives (heart : Heart RunFault) (m n : Moment O F L) (last : Heart RunFault) : Type 0 where
+  pub record Drives (publish_loop : PublishLoop RunFault) (m n : Moment O F L) (last : PublishLoop RunFault) : Type 0 where
     pub events : List (Event RunFault)
-    pub done : DoesAll heart events m n
-    pub comes : last ≡ after_all heart events
+    pub done : DoesAll publish_loop events m n
+    pub comes : last ≡ after_all publish_loop events
     pub ends : (is_own (step_of last.doing) ≡ false) ⊎ (2 ^ 64 - 1 ≤ length events)

@@ -1,0 +1,363 @@
+//! The publish_loop of a running log.
+
+ghost use Rattle.std.specs.Prelude.{◌≡◌, false, true};
+ghost use Rattle.tl_loop.specs.declared.publish_loop.Doing.TheVariants as doing;
+ghost use Rattle.tl_loop.specs.Order.{Begins, publication, telling};
+ghost use Rattle.tl_loop.specs.PublishLoop.{after, after_done, after_failure, after_nothing, is_waiting, next_due, next_taking, now_doing, step_of, with_taken, without_new};
+
+use std::alloc::AllocError;
+
+/// What came of a step, or came meanwhile.
+#[derive(Debug)]
+pub enum Event<F> {
+    /// What was to be done is done: so many entries were taken in, or the log is closed with so many. Where it was to
+    /// wait, something may have come.
+    Done(u64),
+    /// Nothing was to be published, since nothing was new.
+    NothingNew,
+    /// The line with this number, counted from 0, is too long, and was left out.
+    TooLong(u64),
+    /// The input has ended.
+    InputEnded,
+    /// What was taken in has waited long enough for more.
+    Due,
+    /// The log is to end: as many connections as are to be answered are answered, and nothing is sent any more.
+    Stopped,
+    /// What was to be done failed, or what goes on beside it did.
+    Failed(F),
+}
+
+impl<F: Copy> Clone for Event<F> {
+    ghost use Rattle.std.specs.Prelude.{◌≡◌};
+
+    ghost is_clone = { λ event copy. copy ≡ event };
+
+    ghost is_infallible = { λ _. Unit {0} };
+
+    fn clone(&self) -> Result<Event<F>, AllocError> {
+        Ok(*self)
+    }
+}
+
+impl<F: Copy> Copy for Event<F> {}
+
+/// What is to be done next.
+#[derive(Debug)]
+pub enum Step<F> {
+    /// Wait for what comes.
+    Wait,
+    /// Take in what waits.
+    Take,
+    /// Publish what was taken in.
+    Publish,
+    /// Tell what was published.
+    TellHead,
+    /// Tell that the line with this number is too long.
+    TellTooLong(u64),
+    /// Tell that the input has ended.
+    TellInputEnded,
+    /// Accept nothing any more, and wait until all that was accepted is answered.
+    CloseListener,
+    /// Take in all that is left, now that nothing is sent any more.
+    TakeRest,
+    /// Close the log.
+    CloseLog,
+    /// Tell that the log is closed, with so many entries.
+    TellClosed(u64),
+    /// End so.
+    End(Result<(), F>),
+}
+
+impl<F: Copy> Clone for Step<F> {
+    ghost use Rattle.std.specs.Prelude.{◌≡◌};
+
+    ghost is_clone = { λ step copy. copy ≡ step };
+
+    ghost is_infallible = { λ _. Unit {0} };
+
+    fn clone(&self) -> Result<Step<F>, AllocError> {
+        Ok(*self)
+    }
+}
+
+impl<F: Copy> Copy for Step<F> {}
+
+/// What is being done.
+#[derive(Debug)]
+pub enum Doing<F> {
+    /// It waits.
+    Waiting,
+    /// It takes in what waits.
+    Taking,
+    /// It publishes; `true` for the last time, likewise below.
+    Publishing(bool),
+    /// It tells what was published.
+    Telling(bool),
+    /// It tells that a line was too long.
+    TellingTooLong(u64),
+    /// It tells that the input has ended.
+    TellingInputEnded,
+    /// It closes the listener, since the log is to end.
+    Closing,
+    /// It takes in all that is left.
+    TakingRest,
+    /// It closes the log.
+    Sealing,
+    /// It tells that the log is closed.
+    TellingClosed(u64),
+    /// It closes the listener after a failure.
+    Failing(F),
+    /// It ended.
+    Ended(Result<(), F>),
+}
+
+impl<F: Copy> Clone for Doing<F> {
+    ghost use Rattle.std.specs.Prelude.{◌≡◌};
+
+    ghost is_clone = { λ doing copy. copy ≡ doing };
+
+    ghost is_infallible = { λ _. Unit {0} };
+
+    fn clone(&self) -> Result<Doing<F>, AllocError> {
+        Ok(*self)
+    }
+}
+
+impl<F: Copy> Copy for Doing<F> {}
+
+/// A running log, as far as it decides what is to be done next.
+#[derive(Debug)]
+pub struct PublishLoop<F> {
+    /// What is being done.
+    pub doing: Doing<F>,
+    /// Whether something is to be published: entries that were taken in, or a log that never was.
+    pub has_new: bool,
+    /// How many more entries make a publication due at once.
+    pub left: u64,
+    /// The same after a publication.
+    pub batch: u64,
+    /// Whether fewer entries wait for more until a publication is due; else they are published once no more wait.
+    pub gathers: bool,
+}
+
+impl<F: Copy> Clone for PublishLoop<F> {
+    ghost use Rattle.std.specs.Prelude.{◌≡◌};
+
+    ghost is_clone = { λ publish_loop copy. copy ≡ publish_loop };
+
+    ghost is_infallible = { λ _. Unit {0} };
+
+    fn clone(&self) -> Result<PublishLoop<F>, AllocError> {
+        Ok(*self)
+    }
+}
+
+impl<F: Copy> Copy for PublishLoop<F> {}
+
+impl<F: Copy> PublishLoop<F> {
+    /// A log that is served: it was published, which is told first, and publishes what comes: each `batch` entries at
+    /// once, and fewer once no more wait, or, where it gathers, once they have waited long enough.
+    pub fn serving(batch: u64, gathers: bool) -> PublishLoop<F>
+        ensures value { result ≡ record {
+          doing = doing.Telling false;
+          has_new = false;
+          left = batch;
+          batch = batch;
+          gathers = gathers;
+        } }
+        ensures begins { Begins result telling }
+    {
+        PublishLoop {
+            doing: Doing::Telling(false),
+            has_new: false,
+            left: batch,
+            batch,
+            gathers,
+        }
+    }
+
+    /// A log that is served and owes a publication, as what was there isn't shown: it waits until that is due, and
+    /// publishes as the other does.
+    pub fn owing(batch: u64, gathers: bool) -> PublishLoop<F>
+        ensures value { result ≡ record {
+          doing = doing.Waiting;
+          has_new = true;
+          left = batch;
+          batch = batch;
+          gathers = gathers;
+        } }
+        ensures begins { Begins result publication }
+    {
+        PublishLoop {
+            doing: Doing::Waiting,
+            has_new: true,
+            left: batch,
+            batch,
+            gathers,
+        }
+    }
+
+    /// What is to be done now.
+    pub fn step(self) -> Step<F>
+        ensures { result ≡ step_of self.doing }
+    {
+        match self.doing {
+            Doing::Waiting => Step::Wait,
+            Doing::Taking => Step::Take,
+            Doing::Publishing(_) => Step::Publish,
+            Doing::Telling(_) => Step::TellHead,
+            Doing::TellingTooLong(line) => Step::TellTooLong(line),
+            Doing::TellingInputEnded => Step::TellInputEnded,
+            Doing::Closing | Doing::Failing(_) => Step::CloseListener,
+            Doing::TakingRest => Step::TakeRest,
+            Doing::Sealing => Step::CloseLog,
+            Doing::TellingClosed(size) => Step::TellClosed(size),
+            Doing::Ended(outcome) => Step::End(outcome),
+        }
+    }
+
+    // The same log that does this.
+    fn now_doing(self, doing: Doing<F>) -> PublishLoop<F>
+        ensures { result ≡ now_doing self doing }
+    {
+        PublishLoop { doing, ..self }
+    }
+
+    // The same log once so many entries more were taken in.
+    fn with_taken(self, count: u64) -> PublishLoop<F>
+        ensures { result ≡ with_taken self count }
+    {
+        PublishLoop {
+            has_new: self.has_new || count > 0,
+            left: self.left.saturating_sub(count),
+            ..self
+        }
+    }
+
+    // The same log once nothing is to be published.
+    fn without_new(self) -> PublishLoop<F>
+        ensures { result ≡ without_new self }
+    {
+        PublishLoop {
+            has_new: false,
+            left: self.batch,
+            ..self
+        }
+    }
+
+    // What is done once the last call took in so many entries.
+    fn next_taking(self, count: u64) -> Doing<F>
+        ensures { result ≡ next_taking self count }
+    {
+        if self.has_new && self.left == 0 {
+            return Doing::Publishing(false);
+        }
+        if count > 0 {
+            return Doing::Taking;
+        }
+        if self.has_new && !self.gathers {
+            return Doing::Publishing(false);
+        }
+        Doing::Waiting
+    }
+
+    // The same log once it took in so many entries more.
+    fn after_taking(self, count: u64) -> PublishLoop<F>
+        ensures { result ≡ now_doing (with_taken self count) (next_taking (with_taken self count) count) }
+    {
+        let taken = self.with_taken(count);
+        taken.now_doing(taken.next_taking(count))
+    }
+
+    // The same log once it took in all that was left.
+    fn after_rest(self, count: u64) -> PublishLoop<F>
+        ensures { result ≡ after_done doing.TakingRest count self }
+    {
+        let taken = self.with_taken(count);
+        if taken.has_new {
+            taken.now_doing(Doing::Publishing(true))
+        } else {
+            taken.now_doing(Doing::Sealing)
+        }
+    }
+
+    // The same log once what was to be done is done.
+    fn after_done(self, count: u64) -> PublishLoop<F>
+        ensures { result ≡ after_done self.doing count self }
+    {
+        match self.doing {
+            Doing::Waiting
+            | Doing::Telling(false)
+            | Doing::TellingTooLong(_)
+            | Doing::TellingInputEnded => self.now_doing(Doing::Taking),
+            Doing::Taking => self.after_taking(count),
+            Doing::Publishing(is_last) => self.without_new().now_doing(Doing::Telling(is_last)),
+            Doing::Telling(true) => self.now_doing(Doing::Sealing),
+            Doing::Closing => self.now_doing(Doing::TakingRest),
+            Doing::TakingRest => self.after_rest(count),
+            Doing::Sealing => self.now_doing(Doing::TellingClosed(count)),
+            Doing::TellingClosed(_) => self.now_doing(Doing::Ended(Ok(()))),
+            Doing::Failing(fault) => self.now_doing(Doing::Ended(Err(fault))),
+            Doing::Ended(_) => self,
+        }
+    }
+
+    // The same log once nothing was new.
+    fn after_nothing(self) -> PublishLoop<F>
+        ensures { result ≡ after_nothing self.doing self }
+    {
+        match self.doing {
+            Doing::Publishing(true) => self.without_new().now_doing(Doing::Sealing),
+            Doing::Publishing(false) => self.without_new().now_doing(Doing::Waiting),
+            _ => self,
+        }
+    }
+
+    // Whether it waits.
+    fn is_waiting(self) -> bool
+        ensures { result ≡ is_waiting self.doing }
+    {
+        match self.doing {
+            Doing::Waiting => true,
+            _ => false,
+        }
+    }
+
+    // What is done once a call failed.
+    fn after_failure(self, fault: F) -> Doing<F>
+        ensures { result ≡ after_failure fault self.doing }
+    {
+        match self.doing {
+            Doing::Failing(first) => Doing::Ended(Err(first)),
+            Doing::Ended(outcome) => Doing::Ended(outcome),
+            _ => Doing::Failing(fault),
+        }
+    }
+
+    // What is done where a publication is due while it waits.
+    fn next_due(self) -> Doing<F>
+        ensures { result ≡ next_due self }
+    {
+        if self.has_new {
+            Doing::Publishing(false)
+        } else {
+            Doing::Waiting
+        }
+    }
+
+    /// The same log after an event. What comes while nothing is waited for, but for a failure, counts for nothing.
+    pub fn after(self, event: Event<F>) -> PublishLoop<F>
+        ensures { result ≡ after self event }
+    {
+        match event {
+            Event::Done(count) => self.after_done(count),
+            Event::NothingNew => self.after_nothing(),
+            Event::Failed(fault) => self.now_doing(self.after_failure(fault)),
+            _ if !self.is_waiting() => self,
+            Event::TooLong(line) => self.now_doing(Doing::TellingTooLong(line)),
+            Event::InputEnded => self.now_doing(Doing::TellingInputEnded),
+            Event::Due => self.now_doing(self.next_due()),
+            Event::Stopped => self.now_doing(Doing::Closing),
+        }
+    }
+}
