@@ -1,4 +1,4 @@
--- What is done once a call failed.
+-- What is done after a call failed.
 use Rattle.std.proofs.Common.{◌≡◌, ◌⊎◌, inl, inr, Err, List, [], ◌∷◌, refl, ap}
 use Rattle.tl_loop.specs.declared.publish_loop.Event.{Event}
 use Rattle.tl_loop.specs.declared.publish_loop.Event.TheVariants as event
@@ -30,7 +30,7 @@ first_fails fault (doing.TellingClosed size) runs = refl
 first_fails fault (doing.Failing first) runs = absurd runs
 first_fails fault (doing.Ended outcome) runs = absurd runs
 
--- what the publish_loop that does this does after an event
+-- what a loop that does this does after an event
 abbrev doing_next : {F : Type 0} → PublishLoop F → Event F → Doing F → Doing F
 doing_next h e d = (after (now_doing h d) e).doing
 

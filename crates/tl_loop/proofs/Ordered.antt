@@ -50,7 +50,7 @@ fits_if : {F : Type 0} (b : Bool) (x y : Doing F) (new : Bool) (owed : Owed) →
 fits_if true x y new owed first second = first refl
 fits_if false x y new owed first second = second refl
 
--- what is owed with so many entries more
+-- what is owed with this many more entries
 owed_more : (new : Bool) (count : ℕ) (owed : Owed) → owed ≡ owed_new new
     → with_entries count owed ≡ owed_new (new || nat_lt 0 count)
 owed_more true zero owed is = is
@@ -76,7 +76,7 @@ fits_taking h count owed is =
     (λ due. both_new h.has_new (not h.gathers) owed is due)
     (λ _. is)))
 
--- nothing new is owed where there is nothing
+-- nothing new is owed if there is nothing
 none_new : (new : Bool) (owed : Owed) → owed ≡ owed_new new → new ≡ false → owed ≡ nothing
 none_new new owed is none = is ∙ ap owed_new none
 
@@ -88,7 +88,7 @@ fits_rest h owed is =
     fits_if h.has_new (doing.Publishing true) doing.Sealing h.has_new owed
     (λ some. some_new h.has_new owed is some) (λ none. none_new h.has_new owed is none)
 
--- the publish_loop fits what is owed
+-- the loop fits what is owed
 abbrev pub Suits : {F : Type 0} → PublishLoop F → Owed → Type 0
 Suits h owed = Fits h.doing h.has_new owed
 
@@ -163,10 +163,10 @@ suits_if : {F : Type 0} (b : Bool) (x y : PublishLoop F) (owed : Owed) → (b �
 suits_if true x y owed first second = first refl
 suits_if false x y owed first second = second refl
 
--- what is done at news fits where it waits
-fits_news : {F : Type 0} (h : PublishLoop F) (told : Doing F) (owed : Owed) → Suits h owed
+-- what is done at an event fits if the loop waits
+fits_waiting : {F : Type 0} (h : PublishLoop F) (told : Doing F) (owed : Owed) → Suits h owed
     → (owed ≡ owed_new h.has_new → Fits told h.has_new owed) → Suits (if_waiting h told) owed
-fits_news h told owed fits told_fits =
+fits_waiting h told owed fits told_fits =
     suits_if (is_waiting h.doing) (now_doing h told) h owed
     (λ is. told_fits (subst (λ d. Fits d h.has_new owed) (waits h.doing is) fits)) (λ other. fits)
 
@@ -174,13 +174,13 @@ fits_after : {F : Type 0} (h : PublishLoop F) (e : Event F) (owed : Owed) → Su
     → Suits (after h e) (owed_after (step_of h.doing) e owed)
 fits_after h (event.Done count) owed fits = fits_done h.doing count h owed fits
 fits_after h event.NothingNew owed fits = fits_nothing h.doing h owed fits
-fits_after h (event.TooLong line) owed fits = fits_news h (doing.TellingTooLong line) owed fits (λ is. is)
-fits_after h event.InputEnded owed fits = fits_news h doing.TellingInputEnded owed fits (λ is. is)
+fits_after h (event.TooLong line) owed fits = fits_waiting h (doing.TellingTooLong line) owed fits (λ is. is)
+fits_after h event.InputEnded owed fits = fits_waiting h doing.TellingInputEnded owed fits (λ is. is)
 fits_after h event.Due owed fits =
-    fits_news h (next_due h) owed fits
+    fits_waiting h (next_due h) owed fits
     (λ is. fits_if h.has_new (doing.Publishing false) doing.Waiting h.has_new owed
     (λ some. some_new h.has_new owed is some) (λ _. is))
-fits_after h event.Stopped owed fits = fits_news h doing.Closing owed fits (λ is. is)
+fits_after h event.Stopped owed fits = fits_waiting h doing.Closing owed fits (λ is. is)
 fits_after h (event.Failed fault) owed fits = fits_failure fault h.doing h.has_new owed fits
 
 fits_all : {F : Type 0} (h : PublishLoop F) (es : List (Event F)) (owed : Owed) → Suits h owed

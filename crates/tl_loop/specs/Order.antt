@@ -1,4 +1,4 @@
--- In which order a running log does what it does, whatever comes.
+-- The order in which a running log does its steps, whatever happens.
 use Rattle.std.specs.Prelude.{◌≡◌, ◌⊎◌, ℕ, suc, Bool, true, false, Ok, Err, List, [], ◌∷◌}
 use Rattle.tl_loop.specs.declared.publish_loop.Event.{Event}
 use Rattle.tl_loop.specs.declared.publish_loop.Event.TheVariants as event
@@ -9,12 +9,12 @@ use Rattle.tl_loop.specs.declared.publish_loop.Doing.TheVariants as doing
 use Rattle.tl_loop.specs.declared.publish_loop.PublishLoop.{PublishLoop}
 use Rattle.tl_loop.specs.PublishLoop.{after, step_of}
 
--- the publish_loop after these events
+-- the loop after these events
 abbrev pub after_all : {F : Type 0} → PublishLoop F → List (Event F) → PublishLoop F
 after_all h [] = h
 after_all h (e ∷ es) = after_all (after h e) es
 
--- what a log owes its readers: nothing, to publish what it took in, to tell what it published
+-- what a log owes its readers: nothing, to publish what it took in, or to report what it published
 pub data Owed : Type 0 where
   nothing : Owed
   publication : Owed
@@ -25,7 +25,7 @@ abbrev pub with_entries : ℕ → Owed → Owed
 with_entries (suc n) nothing = publication
 with_entries n owed = owed
 
--- what is owed once this step is done, with so many entries
+-- what is owed after this step is done, with this many entries
 abbrev pub once_done : {F : Type 0} → Step F → ℕ → Owed → Owed
 once_done step.Take count owed = with_entries count owed
 once_done step.TakeRest count owed = with_entries count owed
@@ -33,12 +33,12 @@ once_done step.Publish count owed = telling
 once_done step.TellHead count owed = nothing
 once_done _ count owed = owed
 
--- what is owed where this step found nothing new
+-- what is owed if this step found nothing new
 abbrev pub once_nothing : {F : Type 0} → Step F → Owed → Owed
 once_nothing step.Publish owed = nothing
 once_nothing _ owed = owed
 
--- the same after an event that came where this step was to be done
+-- the same after an event that came when this step was next
 abbrev pub owed_after : {F : Type 0} → Step F → Event F → Owed → Owed
 owed_after s (event.Done count) owed = once_done s count owed
 owed_after s event.NothingNew owed = once_nothing s owed
@@ -49,19 +49,19 @@ abbrev pub owed_all : {F : Type 0} → PublishLoop F → List (Event F) → Owed
 owed_all h [] owed = owed
 owed_all h (e ∷ es) owed = owed_all (after h e) es (owed_after (step_of h.doing) e owed)
 
--- what is owed by a log that waits: a publication, where there is something new
+-- what a log that waits owes: a publication, if something is new
 abbrev pub owed_new : Bool → Owed
 owed_new true = publication
 owed_new false = nothing
 
--- a log that begins, and what it owes: it was published, which it tells first, or it waits
+-- a log that begins, and what it owes: it was published, which it reports first, or it waits
 abbrev pub Begins : {F : Type 0} → PublishLoop F → Owed → Type 0
 Begins h owed =
     ((h.doing ≡ doing.Telling false) × (h.has_new ≡ false) × (owed ≡ telling))
     ⊎ ((h.doing ≡ doing.Waiting) × (owed ≡ owed_new h.has_new))
 
--- a step that may be done where this is owed: only what was taken in is published, only what was published is told, and
--- a log is closed, told to be closed and ended well only where nothing is owed
+-- a step that may be done while this is owed: only what was taken in is published, only what was published is
+-- reported, and a log is closed, reported to be closed and ended well only if nothing is owed
 abbrev pub MayDo : {F : Type 0} → Owed → Step F → Type 0
 MayDo owed step.Publish = owed ≡ publication
 MayDo owed step.TellHead = owed ≡ telling

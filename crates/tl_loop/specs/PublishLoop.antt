@@ -23,20 +23,20 @@ step_of (doing.TellingClosed size) = step.TellClosed size
 step_of (doing.Failing fault) = step.CloseListener
 step_of (doing.Ended outcome) = step.End outcome
 
--- the same log that does this
+-- the same loop, doing this
 abbrev pub now_doing : {F : Type 0} → PublishLoop F → Doing F → PublishLoop F
 now_doing h d = record h { doing = d }
 
--- the same log once so many entries more were taken in
+-- the same loop after it took in this many more entries
 abbrev pub with_taken : {F : Type 0} → PublishLoop F → ℕ → PublishLoop F
 with_taken h count = record h { has_new = h.has_new || nat_lt 0 count; left = h.left - count }
 
--- the same log once nothing is to be published
+-- the same loop once nothing is to be published
 abbrev pub without_new : {F : Type 0} → PublishLoop F → PublishLoop F
 without_new h = record h { has_new = false; left = h.batch }
 
--- once the last call took in so many entries: a batch is published at once, more is taken while more comes, and then
--- what there is is published unless it waits for more
+-- after the last call took in this many entries: a whole batch is published at once; if there is none, more is taken
+-- while more comes; then what there is is published, unless it waits for more
 abbrev pub next_taking : {F : Type 0} → PublishLoop F → ℕ → Doing F
 next_taking h count =
     if h.has_new && (h.left == 0) then doing.Publishing false
@@ -44,11 +44,11 @@ next_taking h count =
     else if h.has_new && not h.gathers then doing.Publishing false
     else doing.Waiting
 
--- once all that was left was taken in
+-- after all that was left was taken in
 abbrev pub next_rest : {F : Type 0} → PublishLoop F → Doing F
 next_rest h = if h.has_new then doing.Publishing true else doing.Sealing
 
--- once what was to be done is done, with so many entries
+-- after the step is done, with this many entries
 abbrev pub after_done : {F : Type 0} → Doing F → ℕ → PublishLoop F → PublishLoop F
 after_done doing.Waiting count h = now_doing h doing.Taking
 after_done doing.Taking count h = now_doing (with_taken h count) (next_taking (with_taken h count) count)
@@ -64,7 +64,7 @@ after_done (doing.TellingClosed size) count h = now_doing h (doing.Ended (Ok tt)
 after_done (doing.Failing fault) count h = now_doing h (doing.Ended (Err fault))
 after_done (doing.Ended outcome) count h = now_doing h (doing.Ended outcome)
 
--- once nothing was new
+-- if nothing was new
 abbrev pub after_nothing : {F : Type 0} → Doing F → PublishLoop F → PublishLoop F
 after_nothing (doing.Publishing true) h = now_doing (without_new h) doing.Sealing
 after_nothing (doing.Publishing false) h = now_doing (without_new h) doing.Waiting
@@ -75,21 +75,21 @@ abbrev pub is_waiting : {F : Type 0} → Doing F → Bool
 is_waiting doing.Waiting = true
 is_waiting _ = false
 
--- once a call failed, the first time and later
+-- after a call failed, the first time and later
 abbrev pub after_failure : {F : Type 0} → F → Doing F → Doing F
 after_failure fault (doing.Failing first) = doing.Ended (Err first)
 after_failure fault (doing.Ended outcome) = doing.Ended outcome
 after_failure fault _ = doing.Failing fault
 
--- where a publication is due while it waits: what is new is published
+-- if a publication is due while it waits: what is new is published
 abbrev pub next_due : {F : Type 0} → PublishLoop F → Doing F
 next_due h = if h.has_new then doing.Publishing false else doing.Waiting
 
--- what comes while nothing is waited for counts for nothing
+-- what comes while it doesn't wait is ignored
 abbrev pub if_waiting : {F : Type 0} → PublishLoop F → Doing F → PublishLoop F
 if_waiting h d = if is_waiting h.doing then now_doing h d else h
 
--- the same log after an event
+-- the same loop after an event
 abbrev pub after : {F : Type 0} → PublishLoop F → Event F → PublishLoop F
 after h (event.Done count) = after_done h.doing count h
 after h event.NothingNew = after_nothing h.doing h

@@ -1,10 +1,10 @@
-//! What a running log does next, event by event: decided in one place, without threads, clocks or devices.
+//! Decides what a running log does next, event by event: in one place, without threads, clocks or devices.
 //!
 //! ```
 //! let mut publish_loop = PublishLoop::serving(256, false);
 //! loop {
 //!     let event = match publish_loop.step() {
-//!         Step::Wait => next_news(),
+//!         Step::Wait => next_event(),
 //!         Step::Take => Event::Done(take()),
 //!         Step::Publish => { publish(); Event::Done(0) }
 //!         Step::End(outcome) => return outcome,

@@ -1,4 +1,4 @@
-//! The publish_loop of a running log.
+//! The state machine of a running log.
 
 ghost use Rattle.std.specs.Prelude.{◌≡◌, false, true};
 ghost use Rattle.tl_loop.specs.declared.publish_loop.Doing.TheVariants as doing;
@@ -7,23 +7,24 @@ ghost use Rattle.tl_loop.specs.PublishLoop.{after, after_done, after_failure, af
 
 use std::alloc::AllocError;
 
-/// What came of a step, or came meanwhile.
+/// What came of a step, or what happened meanwhile.
 #[derive(Debug)]
 pub enum Event<F> {
-    /// What was to be done is done: so many entries were taken in, or the log is closed with so many. Where it was to
-    /// wait, something may have come.
+    /// The step is done. The count is of the entries that were taken in, or that the closed log
+    /// has. After a wait, something may have come.
     Done(u64),
-    /// Nothing was to be published, since nothing was new.
+    /// Nothing was published, since nothing was new.
     NothingNew,
-    /// The line with this number, counted from 0, is too long, and was left out.
+    /// The line with this number, counted from 0, is too long and was left out.
     TooLong(u64),
     /// The input has ended.
     InputEnded,
     /// What was taken in has waited long enough for more.
     Due,
-    /// The log is to end: as many connections as are to be answered are answered, and nothing is sent any more.
+    /// The log is to end: all connections that were to be answered are answered, and nothing more
+    /// is sent.
     Stopped,
-    /// What was to be done failed, or what goes on beside it did.
+    /// The step failed, or something that runs beside it did.
     Failed(F),
 }
 
@@ -41,30 +42,30 @@ impl<F: Copy> Clone for Event<F> {
 
 impl<F: Copy> Copy for Event<F> {}
 
-/// What is to be done next.
+/// The next step.
 #[derive(Debug)]
 pub enum Step<F> {
-    /// Wait for what comes.
+    /// Wait until something happens.
     Wait,
     /// Take in what waits.
     Take,
     /// Publish what was taken in.
     Publish,
-    /// Tell what was published.
+    /// Report what was published.
     TellHead,
-    /// Tell that the line with this number is too long.
+    /// Report that the line with this number is too long.
     TellTooLong(u64),
-    /// Tell that the input has ended.
+    /// Report that the input has ended.
     TellInputEnded,
-    /// Accept nothing any more, and wait until all that was accepted is answered.
+    /// Stop accepting connections, and wait until all accepted ones are answered.
     CloseListener,
-    /// Take in all that is left, now that nothing is sent any more.
+    /// Take in all that is left, now that nothing more is sent.
     TakeRest,
     /// Close the log.
     CloseLog,
-    /// Tell that the log is closed, with so many entries.
+    /// Report that the log is closed, with this many entries.
     TellClosed(u64),
-    /// End so.
+    /// End with this result.
     End(Result<(), F>),
 }
 
@@ -82,20 +83,20 @@ impl<F: Copy> Clone for Step<F> {
 
 impl<F: Copy> Copy for Step<F> {}
 
-/// What is being done.
+/// What the loop is doing.
 #[derive(Debug)]
 pub enum Doing<F> {
     /// It waits.
     Waiting,
     /// It takes in what waits.
     Taking,
-    /// It publishes; `true` for the last time, likewise below.
+    /// It publishes. Here and below, `true` means for the last time.
     Publishing(bool),
-    /// It tells what was published.
+    /// It reports what was published.
     Telling(bool),
-    /// It tells that a line was too long.
+    /// It reports that a line was too long.
     TellingTooLong(u64),
-    /// It tells that the input has ended.
+    /// It reports that the input has ended.
     TellingInputEnded,
     /// It closes the listener, since the log is to end.
     Closing,
@@ -103,11 +104,11 @@ pub enum Doing<F> {
     TakingRest,
     /// It closes the log.
     Sealing,
-    /// It tells that the log is closed.
+    /// It reports that the log is closed.
     TellingClosed(u64),
     /// It closes the listener after a failure.
     Failing(F),
-    /// It ended.
+    /// It has ended.
     Ended(Result<(), F>),
 }
 
@@ -125,18 +126,19 @@ impl<F: Copy> Clone for Doing<F> {
 
 impl<F: Copy> Copy for Doing<F> {}
 
-/// A running log, as far as it decides what is to be done next.
+/// A running log, as far as it decides what to do next.
 #[derive(Debug)]
 pub struct PublishLoop<F> {
-    /// What is being done.
+    /// What it is doing.
     pub doing: Doing<F>,
     /// Whether something is to be published: entries that were taken in, or a log that never was.
     pub has_new: bool,
     /// How many more entries make a publication due at once.
     pub left: u64,
-    /// The same after a publication.
+    /// The value of `left` after a publication.
     pub batch: u64,
-    /// Whether fewer entries wait for more until a publication is due; else they are published once no more wait.
+    /// Whether a smaller batch waits until a publication is due. If not, it is published once no
+    /// more entries wait.
     pub gathers: bool,
 }
 
@@ -155,8 +157,9 @@ impl<F: Copy> Clone for PublishLoop<F> {
 impl<F: Copy> Copy for PublishLoop<F> {}
 
 impl<F: Copy> PublishLoop<F> {
-    /// A log that is served: it was published, which is told first, and publishes what comes: each `batch` entries at
-    /// once, and fewer once no more wait, or, where it gathers, once they have waited long enough.
+    /// Returns the loop of a log that was published, which it reports first. It publishes each
+    /// `batch` entries at once. A smaller batch is published once no more entries wait or, if it
+    /// gathers, once they have waited long enough.
     pub fn serving(batch: u64, gathers: bool) -> PublishLoop<F>
         ensures value { result ≡ record {
           doing = doing.Telling false;
@@ -176,8 +179,8 @@ impl<F: Copy> PublishLoop<F> {
         }
     }
 
-    /// A log that is served and owes a publication, as what was there isn't shown: it waits until that is due, and
-    /// publishes as the other does.
+    /// Returns the loop of a log that owes a publication, since what was there isn't shown. It
+    /// waits until the publication is due, and goes on as after `serving`.
     pub fn owing(batch: u64, gathers: bool) -> PublishLoop<F>
         ensures value { result ≡ record {
           doing = doing.Waiting;
@@ -197,7 +200,7 @@ impl<F: Copy> PublishLoop<F> {
         }
     }
 
-    /// What is to be done now.
+    /// Returns the next step.
     pub fn step(self) -> Step<F>
         ensures { result ≡ step_of self.doing }
     {
@@ -216,14 +219,14 @@ impl<F: Copy> PublishLoop<F> {
         }
     }
 
-    // The same log that does this.
+    // The same loop, doing this.
     fn now_doing(self, doing: Doing<F>) -> PublishLoop<F>
         ensures { result ≡ now_doing self doing }
     {
         PublishLoop { doing, ..self }
     }
 
-    // The same log once so many entries more were taken in.
+    // The same loop after it took in this many more entries.
     fn with_taken(self, count: u64) -> PublishLoop<F>
         ensures { result ≡ with_taken self count }
     {
@@ -234,7 +237,7 @@ impl<F: Copy> PublishLoop<F> {
         }
     }
 
-    // The same log once nothing is to be published.
+    // The same loop once nothing is to be published.
     fn without_new(self) -> PublishLoop<F>
         ensures { result ≡ without_new self }
     {
@@ -245,7 +248,7 @@ impl<F: Copy> PublishLoop<F> {
         }
     }
 
-    // What is done once the last call took in so many entries.
+    // What it does next if the last call took in this many entries.
     fn next_taking(self, count: u64) -> Doing<F>
         ensures { result ≡ next_taking self count }
     {
@@ -261,7 +264,7 @@ impl<F: Copy> PublishLoop<F> {
         Doing::Waiting
     }
 
-    // The same log once it took in so many entries more.
+    // The same loop after a `Take` that took in this many entries.
     fn after_taking(self, count: u64) -> PublishLoop<F>
         ensures { result ≡ now_doing (with_taken self count) (next_taking (with_taken self count) count) }
     {
@@ -269,7 +272,7 @@ impl<F: Copy> PublishLoop<F> {
         taken.now_doing(taken.next_taking(count))
     }
 
-    // The same log once it took in all that was left.
+    // The same loop after a `TakeRest` that took in this many entries.
     fn after_rest(self, count: u64) -> PublishLoop<F>
         ensures { result ≡ after_done doing.TakingRest count self }
     {
@@ -281,7 +284,7 @@ impl<F: Copy> PublishLoop<F> {
         }
     }
 
-    // The same log once what was to be done is done.
+    // The same loop after its step is done.
     fn after_done(self, count: u64) -> PublishLoop<F>
         ensures { result ≡ after_done self.doing count self }
     {
@@ -302,7 +305,7 @@ impl<F: Copy> PublishLoop<F> {
         }
     }
 
-    // The same log once nothing was new.
+    // The same loop if nothing was new.
     fn after_nothing(self) -> PublishLoop<F>
         ensures { result ≡ after_nothing self.doing self }
     {
@@ -323,7 +326,7 @@ impl<F: Copy> PublishLoop<F> {
         }
     }
 
-    // What is done once a call failed.
+    // What it does next after a call failed.
     fn after_failure(self, fault: F) -> Doing<F>
         ensures { result ≡ after_failure fault self.doing }
     {
@@ -334,7 +337,7 @@ impl<F: Copy> PublishLoop<F> {
         }
     }
 
-    // What is done where a publication is due while it waits.
+    // What it does next if a publication is due while it waits.
     fn next_due(self) -> Doing<F>
         ensures { result ≡ next_due self }
     {
@@ -345,7 +348,8 @@ impl<F: Copy> PublishLoop<F> {
         }
     }
 
-    /// The same log after an event. What comes while nothing is waited for, but for a failure, counts for nothing.
+    /// Returns the loop after an event. An event that comes meanwhile, other than a failure, is
+    /// ignored unless the loop waits.
     pub fn after(self, event: Event<F>) -> PublishLoop<F>
         ensures { result ≡ after self event }
     {

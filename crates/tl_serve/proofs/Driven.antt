@@ -1,4 +1,4 @@
--- Steps of a log that are carried out one after another, and what is told of the lines that are left.
+-- Steps of a log that are carried out one after another, and what is reported of the lines that are left.
 use Rattle.std.proofs.Common.{◌≡◌, inl, inr, ℕ, suc, zero, ◌+◌, ◌-◌, ◌^◌, ◌≤◌, Bool, false, List, [], ◌∷◌, ◌++◌, length, ap, arith, refl, subst, sym, ◌∙◌}
 use Rattle.std.specs.Prelude.{Option, Result}
 use Rattle.tl_device.specs.Device.{Passage}
@@ -27,7 +27,7 @@ module _ {O F L A : Type 0} (log_of : O → Log A) (Shows : O → O → Result B
   does_more first [] e m n k done does = (k, subst (λ (x : Moment O F L). Does log_of Shows Heads Gives contents (step_of first.doing) first.left x k e) done does, refl)
   does_more first (x ∷ events) e m n k done does = (done.0, done.1, does_more (after first x) events e done.0 n k done.2 does)
 
-  -- so many steps were carried out
+  -- this many steps were carried out
   pub record HasDriven (first : PublishLoop RunFault) (m n : Moment O F L) (now : PublishLoop RunFault) (count : ℕ) : Type 0 where
     pub events : List (Event RunFault)
     pub done : DoesAll log_of Shows Heads Gives contents first events m n
@@ -56,7 +56,7 @@ module _ {O F L A : Type 0} (log_of : O → Log A) (Shows : O → O → Result B
       → Drives log_of Shows Heads Gives contents first m n last
   driven_long first last m n count so_far all = record { events = so_far.events; done = so_far.done; comes = so_far.comes; ends = inr (omega (arith, so_far.counted, all)) }
 
--- ---- what is told in the end
+-- ---- what is reported in the end
 
 pub tells_rest : (n rest : ℕ) (o : Passage) (told : Result (Unit {0}) RunFault) → rest ≡ n → (rest ≡ 0 → ⊥) → Tells (told_not_published rest) o told → TellsRest n o told
 tells_rest zero rest o told is some tells = absurd (some is)

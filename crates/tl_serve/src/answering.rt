@@ -17,7 +17,7 @@ use tl_command::RunFault;
 /// A thread that answers.
 pub(crate) type AnsweringThread = JoinHandle<()>;
 
-// Answers connections from these resources, until no more are to be taken.
+// Answers connections from these resources, until no more are to be accepted.
 fn answer_from<H: Clock + Net + Wait, P: Resources>(
     rt: &H,
     alloc: Global,
@@ -30,7 +30,8 @@ fn answer_from<H: Clock + Net + Wait, P: Resources>(
     connections.answer_all(resources)
 }
 
-/// Answers connections from these resources, until no more are to be taken. Tells a fault, and when it ends.
+/// Answers connections from these resources, until no more are to be accepted. Reports a fault, and
+/// that it ends.
 pub(crate) fn answer<H: Clock + Net + Wait, P: Resources>(
     rt: &H,
     alloc: Global,

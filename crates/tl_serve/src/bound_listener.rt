@@ -1,4 +1,4 @@
-//! The address of a server, and what else of the system it stands on.
+//! The bound address of a server, and what else it needs of the system.
 
 use crate::options::ListenOptions;
 use crate::telling::tell_refused;
@@ -12,15 +12,15 @@ use tl_command::RunFault;
 use tl_cosign::Ballot;
 use tl_device::Counted;
 
-/// The address of a server, which no other process has as long as this lasts. Clients that connect before the server
-/// answers wait.
+/// The bound address of a server. No other process has it while this lasts. Clients that connect
+/// before the server answers wait.
 #[derive(Drop)]
 pub struct BoundListener {
     pub(crate) socket: TcpListener,
     pub(crate) address: SocketAddr,
 }
 
-// A listener at this address, which never waits.
+// Returns a listener at this address that never waits.
 fn listen<H: Net<Listener = TcpListener, Stream = TcpStream>>(
     rt: &H,
     address: &str,
@@ -32,8 +32,8 @@ fn listen<H: Net<Listener = TcpListener, Stream = TcpStream>>(
 }
 
 impl BoundListener {
-    /// Takes the address of the options, before anything is made for the server. `Listen`: the address is refused; why
-    /// is told on `out`.
+    /// Binds the address of the options, before anything is made for the server. `Listen`: the
+    /// address is refused, and the reason is reported on `out`.
     pub fn bind<H: Net<Listener = TcpListener, Stream = TcpStream>, L: Write>(
         rt: &H,
         alloc: Global,
@@ -54,16 +54,16 @@ impl BoundListener {
 /// Where a log is served.
 #[derive(Clone, Copy)]
 pub struct Site<'s> {
-    /// Where clients come in.
+    /// The address at which clients connect.
     pub bound: &'s BoundListener,
-    /// The descriptor of the input, where lines are followed and there is one to wait for.
+    /// The descriptor of the input, if lines are followed and there is one to wait for.
     pub input: Option<RawFd>,
-    // Who asks witnesses about what the log proposes, if they are asked.
+    // The ballot by which witnesses are asked about what the log proposes, if they are asked.
     pub(crate) ballot: Option<&'s Arc<Ballot>>,
 }
 
 impl<'s> Site<'s> {
-    /// This bound, and the input of this descriptor.
+    /// Returns the site at this address, with the input of this descriptor.
     pub fn new(bound: &'s BoundListener, input: Option<RawFd>) -> Site<'s> {
         Site {
             bound,
@@ -72,7 +72,7 @@ impl<'s> Site<'s> {
         }
     }
 
-    /// The same, where what the log proposes goes to this ballot.
+    /// Returns the same site, with this ballot for what the log proposes.
     pub(crate) fn with_ballot<'t>(&'t self, ballot: &'t Arc<Ballot>) -> Site<'t> {
         let ballot = Some(ballot);
         Site {

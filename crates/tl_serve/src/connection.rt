@@ -14,16 +14,17 @@ use std::sync::{Arc, Wait};
 use tl_device::Counted;
 use tl_server::{Outcome, ServeFault};
 
-// How many bytes are read at once.
+// The most bytes of one read.
 const BLOCK: usize = 8192;
 
-// The longest answer that is on its way whole once it was written: it fits the first packets of a connection.
+// The longest answer that is sent whole as soon as it is written: it fits the first packets of a
+// connection.
 const SHORT: usize = 14_000;
 
-// How many milliseconds an answer has that an entry isn't published.
+// How many milliseconds are kept to answer that an entry isn't published.
 const LAST: u64 = 1000;
 
-// How often in turn something that nobody reads any more is read away.
+// Most reads that drain leftover input.
 const MOST_DRAINS: u32 = 256;
 
 /// A connection.
@@ -31,22 +32,22 @@ const MOST_DRAINS: u32 = 256;
 pub(crate) struct Connection {
     pub(crate) stream: TcpStream,
     request: Request,
-    // What it handed in an entry for, whose place is waited for.
+    // The receipt of the entry that it submitted, if it did.
     receipt: Option<Arc<Receipt>>,
-    // The answer, once there is one, and how much of it was written.
+    // The answer, if there is one, and how many of its bytes were written.
     answer: Option<Vec<u8>>,
     written: usize,
-    // When it accepted_at, in milliseconds.
+    // When it was accepted, in milliseconds.
     accepted_at: u64,
     /// Whether it is watched for room to write.
     pub(crate) is_writing: bool,
-    // Whether all was written, and the client is waited for.
+    // Whether the whole answer was written, and it waits for the client to close.
     is_draining: bool,
-    // Whether it is answered though it isn't known where its entry is.
+    // Whether it is answered even if the index of its entry isn't known.
     is_late: bool,
 }
 
-/// What connections are answered with: the system, memory, and what the threads tell each other.
+/// What connections are answered with: the system, memory, and the signals between the threads.
 #[derive(Drop)]
 pub(crate) struct Context<'h, H> {
     pub(crate) rt: &'h H,
@@ -54,19 +55,19 @@ pub(crate) struct Context<'h, H> {
     pub(crate) signals: &'h Signals,
 }
 
-/// What is to be done with a connection.
+/// What to do next with a connection.
 #[derive(Clone, Copy, PartialEq, Eq)]
 pub(crate) enum Next {
-    /// It has to wait.
+    /// It waits.
     Wait,
     /// It goes on at once.
     Continue,
-    /// It is over.
+    /// It is closed.
     Close,
 }
 
 impl Connection {
-    /// A new connection, which accepted_at at this time.
+    /// Returns a new connection that was accepted at this time.
     pub(crate) fn new(alloc: Global, stream: net::TcpStream, accepted_at: u64) -> Connection {
         Connection {
             stream: TcpStream::from_std(stream),
@@ -86,12 +87,12 @@ impl Connection {
         self.answer.is_some()
     }
 
-    /// Whether it waits for the place of an entry.
+    /// Whether it waits for the index of an entry.
     pub(crate) fn is_waiting(&self) -> bool {
         self.answer.is_none() && self.receipt.is_some()
     }
 
-    /// Whether it waits for the place of an entry that is below this size.
+    /// Whether it waits for an entry whose index is below this size.
     pub(crate) fn is_published(&self, size: u64) -> bool {
         match &self.receipt {
             Some(receipt) => self.is_waiting() && receipt.index_below(size).is_some(),
@@ -99,7 +100,7 @@ impl Connection {
         }
     }
 
-    /// When its time is over: a request that is being read may take half of the time alone.
+    /// Returns when its time is over. Reading the head of a request may take only half of it.
     pub(crate) fn deadline(&self, limit: u64) -> u64 {
         let is_reading = self.answer.is_none() && self.receipt.is_none();
         let time = if is_reading && self.request.is_begun() {
@@ -110,8 +111,9 @@ impl Connection {
         self.accepted_at.saturating_add(time)
     }
 
-    /// When something is to be done with it, whatever comes: its time is over, or an entry that it waits for isn't
-    /// published in time. Then there is a second left for the answer, or half of the time where that is less.
+    /// Returns when something is to be done with it even if nothing comes: its time is over, or its
+    /// entry isn't published in time. Then a second is left for the answer, or half of the time if
+    /// that is less.
     pub(crate) fn due(&self, limit: u64) -> u64 {
         if self.is_waiting() {
             let time = limit.saturating_sub(LAST.min(limit / 2));
@@ -120,7 +122,7 @@ impl Connection {
         self.deadline(limit)
     }
 
-    // Takes what accepted_at, until enough did to try an answer.
+    // Reads what came, until there is enough to try an answer.
     fn read_more(&mut self) -> Next {
         let mut buf = [0u8; BLOCK];
         for _ in 0..u64::MAX {
@@ -145,7 +147,7 @@ impl Connection {
         Next::Close
     }
 
-    // Tells that the log hasn't got the entry where it was told to be.
+    // Reports that the log doesn't have the entry at its index.
     fn report_damage<H: Wait>(&self, context: &Context<'_, H>) {
         if let (Some(receipt), Some(queue)) = (&self.receipt, context.signals.queue()) {
             context
@@ -154,8 +156,8 @@ impl Connection {
         }
     }
 
-    // Tries an answer to what accepted_at. Where it depends on what follows, or on a place that isn't known yet, that is
-    // waited for. An entry that isn't where it was told to be is a fault of the log's.
+    // Tries to answer what came. If the answer depends on more input, or on an index that isn't
+    // known yet, it waits for that. It is a fault of the log if the entry isn't at its index.
     fn try_answer<H: Wait, P: Resources>(
         &mut self,
         context: &Context<'_, H>,
@@ -191,7 +193,7 @@ impl Connection {
         }
     }
 
-    // Reads, unless an entry's place is waited for, and tries an answer. Whether to go on.
+    // Reads, unless it waits for the index of an entry, and tries to answer.
     fn read_and_try<H: Wait, P: Resources>(
         &mut self,
         context: &Context<'_, H>,
@@ -227,7 +229,7 @@ impl Connection {
         Next::Close
     }
 
-    // Writes what is left of the answer once.
+    // Writes what is left of the answer, by one call.
     fn write_some(&mut self) -> Next {
         let Some(answer) = &self.answer else {
             return Next::Close;
@@ -247,8 +249,8 @@ impl Connection {
         }
     }
 
-    // Ends a short answer at once. Of a long one a part may still be on its way, which the system throws away where a
-    // connection is closed with something unread: the end is told, and the client's is waited for.
+    // Ends a short answer at once. After a long one only the write side is shut, and we wait for
+    // the client to close: closing with unread input makes the kernel drop data in flight.
     fn shut_write(&mut self) -> Next {
         if self.written <= SHORT || self.stream.shutdown(net::Shutdown::Write).is_err() {
             return Next::Close;
@@ -257,7 +259,7 @@ impl Connection {
         Next::Continue
     }
 
-    // Reads away what the client goes on to send, until it closes.
+    // Reads and drops what the client still sends, until it closes.
     fn drain(&mut self) -> Next {
         let mut buf = [0u8; BLOCK];
         for _ in 0..MOST_DRAINS {
@@ -271,7 +273,7 @@ impl Connection {
         Next::Close
     }
 
-    /// Does what can be done now.
+    /// Goes on as far as it can now.
     pub(crate) fn advance<H: Wait, P: Resources>(
         &mut self,
         context: &Context<'_, H>,
@@ -303,12 +305,12 @@ impl Connection {
         self.advance(context, resources)
     }
 
-    /// Whether it waits for room to write, and not for something to read.
+    /// Whether it waits for room to write, and not for input.
     pub(crate) fn wants_to_write(&self) -> bool {
         self.answer.is_some() && !self.is_draining
     }
 
-    /// What it is to be watched for.
+    /// Returns what it is to be watched for.
     pub(crate) fn interest(&self) -> Interest {
         if self.wants_to_write() {
             Interest::WRITABLE

@@ -1,4 +1,4 @@
-//! The connections that a thread holds, each of which waits without a thread of its own.
+//! The connections that a thread holds. They wait without threads of their own.
 
 use crate::connection::{Connection, Context, Next};
 use crate::listener::{ACCEPT, Accepted, Listener};
@@ -13,13 +13,14 @@ use std::sync::Wait;
 use std::time::{Clock, Duration, Instant};
 use tl_command::RunFault;
 
-// How many events of the system are told at once.
+// The most events that one poll returns.
 const MOST_EVENTS: usize = 1024;
 
-// How many milliseconds an answer may take that is on its way when the listener closes.
+// How many milliseconds an answer in progress may still take after the listener closes.
 const GRACE: u64 = 1000;
 
-// How often an accept that is refused for now is tried again, and how many milliseconds are waited in between.
+// How often an accept that is refused for now is tried again, and how many milliseconds to wait in
+// between.
 const TRIES: u32 = 1000;
 
 const PAUSE: u64 = 10;
@@ -35,17 +36,18 @@ pub(crate) struct Connections<'d, H> {
     // The time, and when something may have to be done with a connection, in milliseconds from the start.
     now: u64,
     due: u64,
-    // When all are let go, once the listener is closed.
+    // When all are closed, once the listener is closed.
     end: u64,
-    // How many entries were published when those were answered last that wait for a publication.
+    // How many entries were published when the connections that wait for a publication were last
+    // answered.
     published: u64,
-    // Whether connections may wait at the listener, and how often in turn an accept was refused for now.
+    // Whether connections may be pending, and how many accepts in a row were refused for now.
     has_pending: bool,
     refusals: u32,
 }
 
 impl<'d, H: Clock> Connections<'d, H> {
-    /// None yet. `Accept`: the machine's clock can't be read.
+    /// Returns an empty set of connections. `Accept`: the machine's clock can't be read.
     pub(crate) fn new(
         context: Context<'d, H>,
         listener: &'d Listener,
@@ -69,7 +71,7 @@ impl<'d, H: Clock> Connections<'d, H> {
         })
     }
 
-    // Takes note of the time. A clock that can't be read stands still.
+    // Records the time. If the clock can't be read, the time stands still.
     fn read_clock(&mut self) {
         if let Ok(time) = self.start.elapsed(self.context.rt) {
             self.now = u64::try_from(time.as_millis()).unwrap_or(u64::MAX);
@@ -78,7 +80,7 @@ impl<'d, H: Clock> Connections<'d, H> {
 }
 
 impl<'d, H> Connections<'d, H> {
-    // How long nothing is to be done where no event comes.
+    // Returns how long there is nothing to do if no event comes.
     fn pause(&self) -> Option<Duration> {
         if self.refusals > 0 && !self.listener.is_over() {
             return Some(Duration::from_millis(PAUSE));
@@ -90,7 +92,7 @@ impl<'d, H> Connections<'d, H> {
         Some(Duration::from_millis(due.saturating_sub(self.now)))
     }
 
-    // Has the system tell when the connection can go on.
+    // Registers what the connection waits for, and reports whether it is watched.
     fn watch(&mut self, key: usize) -> bool {
         let Some(connection) = self.connections.get_mut(key) else {
             return false;
@@ -106,7 +108,7 @@ impl<'d, H> Connections<'d, H> {
             .is_ok()
     }
 
-    // Whether a connection waits for the place of an entry that is below this size.
+    // Whether a connection waits for an entry whose index is below this size.
     fn is_published(&self, key: usize, size: u64) -> bool {
         match self.connections.get(key) {
             Some(connection) => connection.is_published(size),
@@ -114,7 +116,7 @@ impl<'d, H> Connections<'d, H> {
         }
     }
 
-    // Holds a connection that has to wait. Whether it can.
+    // Holds a connection that has to wait, and reports whether it can.
     fn keep(&mut self, connection: Connection) -> bool {
         let mut connection = connection;
         let (key, interest) = (self.connections.vacant_key(), connection.interest());
@@ -131,7 +133,8 @@ impl<'d, H> Connections<'d, H> {
         true
     }
 
-    // Lets go those whose time is over, and once the listener is closed those that have no answer yet.
+    // Closes those whose time is over and, once the listener is closed, those that have no answer
+    // yet.
     fn close_expired(&mut self) {
         let is_closed = self.listener.is_closed();
         if is_closed && self.end == u64::MAX {
@@ -150,7 +153,7 @@ impl<'d, H> Connections<'d, H> {
         self.due = self.next_due();
     }
 
-    // When something is to be done with the first of them.
+    // Returns when something is to be done with the first of them.
     fn next_due(&self) -> u64 {
         let mut due = u64::MAX;
         for (_, connection) in self.connections.iter() {
@@ -161,7 +164,7 @@ impl<'d, H> Connections<'d, H> {
 }
 
 impl<'d, H: Clock + Net + Wait> Connections<'d, H> {
-    // Has a connection wait, or leave, by what came of going on with it.
+    // Keeps a connection waiting, or closes it, by what is next.
     fn settle(&mut self, key: usize, next: Next) {
         if next == Next::Close || !self.watch(key) {
             let _ = self.connections.try_remove(key);
@@ -171,7 +174,7 @@ impl<'d, H: Clock + Net + Wait> Connections<'d, H> {
         }
     }
 
-    // Goes on with a connection of which something was told.
+    // Goes on with a connection.
     fn advance<P: Resources>(&mut self, key: usize, resources: &mut P) {
         let next = match self.connections.get_mut(key) {
             Some(connection) => connection.advance(&self.context, resources),
@@ -180,7 +183,7 @@ impl<'d, H: Clock + Net + Wait> Connections<'d, H> {
         self.settle(key, next);
     }
 
-    // Answers a connection that its entry isn't published, if it waits for that no longer.
+    // Answers a connection that its entry isn't published, if it waits no longer.
     fn give_up<P: Resources>(&mut self, key: usize, resources: &mut P) {
         let (now, limit, is_closed) = (self.now, self.listener.limit(), self.listener.is_closed());
         let Some(connection) = self.connections.get_mut(key) else {
@@ -192,7 +195,8 @@ impl<'d, H: Clock + Net + Wait> Connections<'d, H> {
         }
     }
 
-    // Answers all connections whose entries aren't published in time, or won't be, as the listener is closed.
+    // Answers all connections whose entries aren't published in time, or won't be since the
+    // listener is closed.
     fn give_up_late<P: Resources>(&mut self, resources: &mut P) {
         if self.now < self.due && !self.listener.is_closed() {
             return;
@@ -202,7 +206,7 @@ impl<'d, H: Clock + Net + Wait> Connections<'d, H> {
         }
     }
 
-    // Goes on with all connections of which something was told.
+    // Goes on with all connections that have an event.
     fn advance_ready<P: Resources>(&mut self, events: &Events, resources: &mut P) {
         for event in events.iter() {
             if event.token() == ACCEPT {
@@ -214,7 +218,7 @@ impl<'d, H: Clock + Net + Wait> Connections<'d, H> {
         }
     }
 
-    // Goes on with all connections whose entries were published since that was last looked for.
+    // Goes on with all connections whose entries were published since the last look.
     fn advance_published<P: Resources>(&mut self, resources: &mut P) {
         let Some(queue) = self.context.signals.queue() else {
             return;
@@ -231,7 +235,7 @@ impl<'d, H: Clock + Net + Wait> Connections<'d, H> {
         }
     }
 
-    // Answers a new connection, or holds it where that has to wait.
+    // Answers a new connection, or holds it if it has to wait.
     fn accept<P: Resources>(&mut self, stream: net::TcpStream, resources: &mut P) {
         if !self.listener.acquire() {
             return;
@@ -245,13 +249,13 @@ impl<'d, H: Clock + Net + Wait> Connections<'d, H> {
         }
     }
 
-    // Begins with a connection. Whether it is held.
+    // Begins with a connection, and reports whether it is held.
     fn begin<P: Resources>(&mut self, stream: net::TcpStream, resources: &mut P) -> bool {
         let mut connection = Connection::new(self.context.alloc, stream, self.now);
         connection.advance(&self.context, resources) == Next::Wait && self.keep(connection)
     }
 
-    // Lets in all connections that wait at the listener. `Accept`: none can be accepted for good.
+    // Accepts all pending connections. `Accept`: accepting fails for good.
     fn accept_all<P: Resources>(&mut self, resources: &mut P) -> Result<(), RunFault> {
         for _ in 0..u64::MAX {
             if !self.has_pending {
@@ -278,7 +282,8 @@ impl<'d, H: Clock + Net + Wait> Connections<'d, H> {
         Ok(())
     }
 
-    /// Answers connections, until no more are to be taken and none is held. `Accept`: none can be accepted for good.
+    /// Answers connections, until no more are to be accepted and none is held. `Accept`: accepting
+    /// fails for good.
     pub(crate) fn answer_all<P: Resources>(&mut self, resources: P) -> Result<(), RunFault> {
         let mut resources = resources;
         let mut events = Events::with_capacity(self.context.alloc, MOST_EVENTS)?;

@@ -1,4 +1,4 @@
-//! How the lines of an input come into a log as they come.
+//! How the lines of an input enter a log as they come.
 
 ghost use Rattle.std.specs.Prelude.{◌≡◌, IfOk, IfSome};
 
@@ -16,7 +16,7 @@ use tl_device::Counted;
 use tl_lines::{Lines, NextLine};
 use tl_sequencer::Submitter;
 
-/// What came of reading on.
+/// What reading on gave.
 #[derive(Clone, Copy)]
 pub(crate) enum ReadOn {
     /// Something came.
@@ -27,12 +27,13 @@ pub(crate) enum ReadOn {
     Over,
 }
 
-/// Lines that come one after the other.
+/// A source of lines, one after another.
 pub(crate) trait Source: Send + Drop {
-    /// The next line of what was read; none where all of it was cut.
+    /// Returns the next line of what was read, or none if all of it was cut.
     fn cut(&mut self) -> Result<Option<NextLine<Global>>, RunFault>;
 
-    /// Waits until there is something to read. Whether there is: the thread may have been woken.
+    /// Waits until there is something to read, and reports whether there is: the thread may have
+    /// been woken.
     fn wait(&mut self) -> Result<bool, RunFault>;
 
     /// Reads on.
@@ -41,10 +42,10 @@ pub(crate) trait Source: Send + Drop {
     /// Whether the last read came to the end of the input.
     fn has_ended(&self) -> bool;
 
-    /// The last line, once the input has ended, if no newline ended it.
+    /// Returns the last line, once the input has ended, if no newline ended it.
     fn last(&mut self) -> Option<NextLine<Global>>;
 
-    /// How many lines came so far.
+    /// Returns how many lines came so far.
     fn count(&self) -> u64;
 }
 
@@ -95,7 +96,7 @@ impl<R: Read + Send> Source for Followed<'_, R> {
     }
 }
 
-// Sends a line, or tells that it is too long. Whether to go on.
+// Sends a line, or reports that it is too long. Returns whether to go on.
 fn send_line<H: Wait>(
     rt: &H,
     submitter: &mut Submitter<Global, Global>,
@@ -114,7 +115,7 @@ fn send_line<H: Wait>(
     }
 }
 
-// Sends the lines that were read. Whether to go on.
+// Sends the lines that were read. Returns whether to go on.
 fn send_read<H: Wait, S: Source>(
     rt: &H,
     source: &mut S,
@@ -138,7 +139,7 @@ fn send_read<H: Wait, S: Source>(
     Ok(false)
 }
 
-// Sends the last line, where the input has ended, and tells that. Whether to go on.
+// Sends the last line after the input has ended, and reports the end. Returns whether to go on.
 fn send_last<H: Wait, S: Source>(
     rt: &H,
     source: &mut S,
@@ -158,8 +159,8 @@ fn send_last<H: Wait, S: Source>(
     Ok(may_go_on)
 }
 
-// Waits for what comes and reads it. What came of that; none where nothing is taken any more, or all connections are
-// answered and the input has ended.
+// Waits for input and reads it. Returns what that gave, or none if nothing more is taken, or if all
+// connections are answered and the input has ended.
 fn read_next<S: Source>(source: &mut S, signals: &Signals) -> Result<Option<ReadOn>, RunFault> {
     for _ in 0..u64::MAX {
         if signals.is_stopped() || (signals.is_over() && source.has_ended()) {
@@ -172,7 +173,7 @@ fn read_next<S: Source>(source: &mut S, signals: &Signals) -> Result<Option<Read
     Ok(None)
 }
 
-// Sends each line as it comes, until nothing more can come or nothing is taken any more.
+// Sends each line as it comes, until no more can come or no more are taken.
 fn send_lines<H: Wait, S: Source>(
     rt: &H,
     source: &mut S,
@@ -197,7 +198,7 @@ fn send_lines<H: Wait, S: Source>(
     Ok(())
 }
 
-// Sends each line as it comes, and closes the submitter at the end. A fault is told.
+// Sends each line as it comes, and closes the submitter at the end. Reports a fault.
 fn follow<H: Wait, S: Source>(rt: &H, source: S, lane: Sending, signals: &Signals) -> Sent
     ensures { IfSome result.ended
         (λ e. (e.ring ≡ lane.submitter.ring) × (e.lane ≡ lane.submitter.lane)) }
@@ -216,7 +217,7 @@ fn follow<H: Wait, S: Source>(rt: &H, source: S, lane: Sending, signals: &Signal
     sent
 }
 
-/// Starts the thread that sends the lines, which promises that its end is of the lane's submitter.
+/// Starts the thread that sends the lines. It promises that its end is of the lane's submitter.
 pub(crate) fn start_following<'s, E, H: Wait + Sync, S: Source + 's>(
     scope: &'s Scope<'s, E>,
     rt: &'s H,

@@ -1,4 +1,4 @@
-//! How entries come into a log: by a thread for each lane.
+//! How entries enter a log: by a thread for each lane.
 
 ghost use Rattle.std.specs.Global.{Global as GlobalValue};
 ghost use Rattle.std.specs.Prelude.{◌≡◌, All, IfOk, IfSome};
@@ -13,21 +13,22 @@ use std::thread::{Promise, PromisedHandle, Scope, Threads};
 use tl_command::RunFault;
 use tl_sequencer::{Ended, Submitter, Why};
 
-/// A submitter, and what it is to send.
+/// A submitter, and the entries that it is to send.
 #[derive(Drop)]
 pub(crate) struct Sending {
     pub(crate) submitter: Submitter<Global, Global>,
     pub(crate) entries: Vec<Vec<u8>>,
 }
 
-/// The end of a lane, if it could be closed, and how many entries there were to send, as far as that is known.
+/// The end of a lane, if it could be closed, and how many entries there were to send, as far as
+/// that is known.
 #[derive(Drop)]
 pub(crate) struct Sent {
     pub(crate) ended: Option<Ended<Global, Global>>,
     pub(crate) count: u64,
 }
 
-/// That an end is of this submitter.
+/// The promise that an end is of this submitter.
 #[derive(Drop)]
 pub(crate) struct EndOf(pub(crate) Snapshot<Submitter<Global, Global>>);
 
@@ -41,7 +42,8 @@ impl Promise<Sent> for EndOf {
 /// The thread of a lane.
 pub(crate) type LaneThread = PromisedHandle<Sent, EndOf>;
 
-/// Sends one entry, trying again while the lane is full, unless nothing is taken any more. Whether it was sent.
+/// Sends one entry, and tries again while the lane is full. Gives up once nothing more is taken.
+/// Reports whether it was sent.
 pub(crate) fn send_one(
     submitter: &mut Submitter<Global, Global>,
     entry: Vec<u8>,
@@ -102,7 +104,7 @@ fn send_lane<G: Gate>(gate: &G, lane: Sending, signals: &Signals) -> Sent
     Sent { ended, count }
 }
 
-// Starts the thread of a lane, which promises that its end is of the lane's submitter.
+// Starts the thread of a lane. It promises that its end is of the lane's submitter.
 fn start_lane<'s, E, G: Gate>(
     scope: &'s Scope<'s, E>,
     gate: &'s G,
@@ -126,7 +128,7 @@ fn start_lane<'s, E, G: Gate>(
     }
 }
 
-/// Starts a thread for each lane, which promises that its end is of the lane's submitter.
+/// Starts a thread for each lane. Each promises that its end is of the lane's submitter.
 pub(crate) fn start_lanes<'s, E, G: Gate>(
     scope: &'s Scope<'s, E>,
     alloc: Global,
@@ -145,14 +147,14 @@ pub(crate) fn start_lanes<'s, E, G: Gate>(
     Ok(threads)
 }
 
-/// What the threads of the lanes came to: their ends, and how many entries there were to send.
+/// What the threads of the lanes returned: their ends, and how many entries there were to send.
 #[derive(Drop)]
 pub(crate) struct AllSent {
     pub(crate) ends: Vec<Ended<Global, Global>>,
     pub(crate) count: u64,
 }
 
-/// Waits for the threads of the lanes. The ends are of the submitters that were handed to them.
+/// Waits for the threads of the lanes. The ends are of the submitters that the threads were given.
 pub(crate) fn join_lanes<T: Threads>(
     rt: &T,
     alloc: Global,

@@ -3,7 +3,7 @@
 //!
 //! ```
 //! let options = ServeOptions { origin, key: LogKey::Secret(secret), .. };
-//! run_serve(&rt, alloc, &options, None, &mut reader, &mut log)?; // tells `listening 127.0.0.1:8080`, and ends in time
+//! run_serve(&rt, alloc, &options, None, &mut reader, &mut log)?; // reports `listening 127.0.0.1:8080`, and ends in time
 //! ```
 #![tactic(auto)]
 

@@ -18,7 +18,7 @@ use tl_note::{Signer, Verifier};
 use tl_proof::Link;
 use tl_witness::Trust;
 
-// The logs that the file at this path names.
+// Reads the logs that the file at this path names.
 fn known_logs<H: Files>(
     rt: &H,
     alloc: Global,
@@ -36,7 +36,7 @@ fn known_logs<H: Files>(
     }
 }
 
-// Serves a witness of these logs that cosigns by this key, and has cosigned these chains.
+// Serves a witness of these logs that cosigns with this key and has cosigned these chains.
 fn serve_listed<
     H: Host + Net<Listener = TcpListener, Stream = TcpStream>,
     O: Write + Send,
@@ -88,7 +88,7 @@ pub(crate) fn run_listed<
 ) -> Result<(), WitnessFault> {
     let logs = known_logs(rt, alloc, path)?;
     let key = Arc::new(alloc, own_key(rt, alloc, options)?)?;
-    // (what it cosigned for others is left out)
+    // What it cosigned for other logs is left out.
     let chains = match read_chains(alloc, Some(logs.as_slice()), reader) {
         Ok(chains) => chains,
         Err(fault) => return Err(WitnessFault::Run(fault)),

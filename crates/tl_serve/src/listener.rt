@@ -1,4 +1,4 @@
-//! The listener of a server, through which connections come to its threads.
+//! The listener of a server, which accepts connections for its threads.
 
 use crate::bound_listener::BoundListener;
 use crate::options::ListenOptions;
@@ -14,18 +14,19 @@ use std::sync::{Mutex, Wait};
 use tl_command::{RunFault, print_text};
 use tl_device::Counted;
 
-/// Under which token a thread watches the listener. Those of connections are smaller.
+/// The token under which a thread watches the listener. Those of connections are smaller.
 pub(crate) const ACCEPT: Token = Token(usize::MAX);
 
-// That of what wakes it.
+// The token of what wakes the thread.
 const WAKE: Token = Token(usize::MAX - 1);
 
-// Errors of a new connection that Linux hands on, which `ErrorKind` doesn't tell apart (accept(2), "Error handling"):
-// EPERM, ENONET, EPROTO, ENOPROTOOPT, EOPNOTSUPP, EHOSTDOWN; and those where there is no room for one now: ENOMEM,
-// ENFILE, EMFILE, ENOBUFS.
+// Errors that Linux passes on with a new connection and `ErrorKind` doesn't distinguish (accept(2),
+// "Error handling"): EPERM, ENONET, EPROTO, ENOPROTOOPT, EOPNOTSUPP, EHOSTDOWN. After these, the
+// errors if there is no room for one now: ENOMEM, ENFILE, EMFILE, ENOBUFS.
 const PASSING: [i32; 10] = [1, 64, 71, 92, 95, 112, 12, 23, 24, 105];
 
-/// A socket, and how many of its connections are still to be taken and may be held at once.
+/// A listening socket, with how many connections are still to be accepted and how many may be held
+/// at once.
 #[derive(Drop)]
 pub(crate) struct Listener {
     socket: TcpListener,
@@ -34,26 +35,26 @@ pub(crate) struct Listener {
     clients: u64,
     // How many milliseconds a connection may take in all.
     limit: u64,
-    // What each thread that answers waits with, until it has it, and what wakes each.
+    // What each answering thread waits with, until the thread takes it, and what wakes each.
     polls: Mutex<Vec<Poll>>,
     wakers: Vec<Waker>,
     is_closed: AtomicBool,
 }
 
-/// What came of an accept.
+/// What an accept gave.
 #[derive(Drop)]
 pub(crate) enum Accepted {
     /// A connection.
     Stream(TcpStream),
-    /// None waits.
+    /// None is pending.
     Nothing,
     /// None can be accepted for now.
     Later,
-    /// None is accepted any more.
+    /// No more are accepted.
     Over,
 }
 
-// Whether an accept failed for this one connection.
+// Whether an accept failed for this one connection, or for now.
 fn is_passing(error: &io::Error) -> bool {
     match error.kind() {
         ErrorKind::Interrupted
@@ -70,7 +71,7 @@ fn is_passing(error: &io::Error) -> bool {
     }
 }
 
-// What a thread waits with, which tells of connections, and what wakes it.
+// Returns a poll that reports connections, and what wakes it.
 fn watch<H: Net>(rt: &H, socket: &TcpListener) -> io::Result<(Poll, Waker)> {
     let poll = Poll::new(rt)?;
     let waker = Waker::new(poll.registry(), WAKE)?;
@@ -80,7 +81,7 @@ fn watch<H: Net>(rt: &H, socket: &TcpListener) -> io::Result<(Poll, Waker)> {
     Ok((poll, waker))
 }
 
-// The same for so many threads. `Accept`: the system refuses.
+// Returns as many of both as there are threads. `Accept`: the system refuses.
 fn watch_all<H: Net>(
     rt: &H,
     alloc: Global,
@@ -99,8 +100,8 @@ fn watch_all<H: Net>(
 }
 
 impl Listener {
-    /// Opens the listener at this bound, where so many threads are to answer, and tells where it is. `Accept`: the
-    /// system refuses to watch it.
+    /// Opens the listener at this address for this many threads, and reports the address. `Accept`:
+    /// the system refuses to watch it.
     pub(crate) fn open<H: Net, L: Write>(
         rt: &H,
         alloc: Global,
@@ -127,12 +128,12 @@ impl Listener {
         })
     }
 
-    /// What one more thread waits with; none where as many have it as were to answer.
+    /// Returns what one more thread waits with, or none if all threads have theirs.
     pub(crate) fn next_poll<H: Wait>(&self, rt: &H) -> Option<Poll> {
         self.polls.lock(rt).pop()
     }
 
-    /// How many milliseconds a connection may take in all.
+    /// Returns how many milliseconds a connection may take in all.
     pub(crate) fn limit(&self) -> u64 {
         self.limit
     }
@@ -144,7 +145,7 @@ impl Listener {
         }
     }
 
-    /// Closes the listener: nothing is accepted any more, and what is not answered yet won't be.
+    /// Closes the listener. No more connections are accepted, and those without an answer get none.
     pub(crate) fn close(&self) {
         self.is_closed.store(true, Ordering::SeqCst);
         self.wake_all();
@@ -155,12 +156,13 @@ impl Listener {
         self.is_closed.load(Ordering::SeqCst)
     }
 
-    /// Whether nothing is accepted any more: the listener was closed, or as many were taken as are to be answered.
+    /// Whether no more connections are accepted: the listener was closed, or as many were taken as
+    /// are to be answered.
     pub(crate) fn is_over(&self) -> bool {
         self.is_closed() || self.left.load(Ordering::SeqCst) == 0
     }
 
-    // Takes one of the connections that are left.
+    // Takes one of the connections that are left, and reports whether there was one.
     fn take_one(&self) -> bool {
         for _ in 0..u64::MAX {
             if self.is_over() {
@@ -180,7 +182,8 @@ impl Listener {
         false
     }
 
-    // Accepts the connection that was taken. Where none comes it is given back, and where it was the last all are told.
+    // Accepts the connection that was taken. If none comes, it is given back. If it was the last,
+    // all threads are woken.
     fn accept_taken(&self) -> Result<TcpStream, io::Error> {
         match self.socket.accept() {
             Ok((stream, _)) => {
@@ -196,7 +199,7 @@ impl Listener {
         }
     }
 
-    /// The next connection, if one waits. `Accept`: none can be accepted for good.
+    /// Returns the next connection, if one is pending. `Accept`: accepting fails for good.
     pub(crate) fn accept(&self) -> Result<Accepted, RunFault> {
         if !self.take_one() {
             return Ok(Accepted::Over);
@@ -209,7 +212,7 @@ impl Listener {
         }
     }
 
-    /// Whether one connection more may be held. If so it counts until it is let go.
+    /// Whether one more connection may be held. If so, it counts until it is released.
     pub(crate) fn acquire(&self) -> bool {
         let may_be = self.held.fetch_add(1, Ordering::SeqCst) < self.clients;
         if !may_be {
@@ -218,7 +221,7 @@ impl Listener {
         may_be
     }
 
-    /// So many connections aren't held any more.
+    /// Releases this many connections, which are held no longer.
     pub(crate) fn release(&self, count: u64) {
         self.held.fetch_sub(count, Ordering::SeqCst);
     }

@@ -1,4 +1,4 @@
-//! How the entries of the queue come into a log: as lines of an input that is followed do.
+//! How submitted entries enter a log: as the lines of a followed input do.
 
 use crate::following::{ReadOn, Source};
 use crate::submit_queue::SubmitQueue;
@@ -8,18 +8,18 @@ use std::vec::IntoIter;
 use tl_command::RunFault;
 use tl_lines::NextLine;
 
-/// The entries that are handed in at a queue, as they come.
+/// The entries of a queue, as they are submitted.
 #[derive(Drop)]
 pub(crate) struct Queued<'d, H> {
     rt: &'d H,
     queue: &'d SubmitQueue,
-    // Those that were taken out and aren't sent yet.
+    // Those that were drained from the queue and aren't sent yet.
     taken: IntoIter<Vec<u8>>,
     count: u64,
 }
 
 impl<'d, H> Queued<'d, H> {
-    /// None yet.
+    /// Returns a source of which nothing came yet.
     pub(crate) fn new(rt: &'d H, alloc: Global, queue: &'d SubmitQueue) -> Queued<'d, H> {
         Queued {
             rt,
@@ -51,7 +51,7 @@ impl<H: Wait + Sync> Source for Queued<'_, H> {
         Ok(ReadOn::More)
     }
 
-    // Nothing comes while nothing is handed in: the thread goes on until all connections are answered.
+    // An empty queue counts as ended: the thread goes on until all connections are answered.
     fn has_ended(&self) -> bool {
         self.queue.is_empty(self.rt)
     }

@@ -11,7 +11,8 @@ use tl_server::{
 
 /// What a thread answers requests from.
 pub(crate) trait Resources: Drop {
-    /// Answers one request, where its answer is known. The queue is asked for the place of an entry that is posted.
+    /// Answers one request, if its answer is known. The queue is asked for the index of a posted
+    /// entry.
     fn answer<I: Read, O: Write, T: Submits>(
         &mut self,
         alloc: Global,
@@ -21,7 +22,8 @@ pub(crate) trait Resources: Drop {
     ) -> Result<Outcome, ServeFault>;
 }
 
-/// What came of a request that was answered at once: its status, none where no byte came.
+/// Returns the outcome of a request that was answered at once: with this status, or not at all if
+/// no byte came.
 pub(crate) fn outcome_of(status: Option<u16>) -> Outcome {
     match status {
         Some(status) => Outcome::Answered(status),
@@ -29,11 +31,11 @@ pub(crate) fn outcome_of(status: Option<u16>) -> Outcome {
     }
 }
 
-/// What a board has.
+/// The resources of a board.
 #[derive(Drop)]
 pub(crate) struct OnBoard {
     pub(crate) board: BoardReader<Global>,
-    /// Whether the log takes entries that are posted.
+    /// Whether the log takes posted entries.
     pub(crate) is_open: bool,
 }
 
@@ -52,11 +54,11 @@ impl Resources for OnBoard {
     }
 }
 
-/// What a shelf has.
+/// The resources of a shelf.
 #[derive(Drop)]
 pub(crate) struct OnShelf<S> {
     pub(crate) shelf: S,
-    /// Whether the log takes entries that are posted.
+    /// Whether the log takes posted entries.
     pub(crate) is_open: bool,
 }
 

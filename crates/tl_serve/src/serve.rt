@@ -31,10 +31,12 @@ use tl_note::{Signer, Verifier, is_key_name};
 use tl_publisher::{BoardReader, Operator, OperatorFault, Published, ResumeFault};
 use tl_sequencer::Submitter;
 
-// The most threads that answer: one less than the board may have readers, since one more tells what is published.
+// The most threads that answer: one less than the board may have readers, since one more reports
+// what is published.
 const MOST_THREADS: u32 = 63;
 
-/// How many threads answer: as many as are asked for, or else as the machine has, and at most 63.
+/// Returns how many threads answer: as many as are asked for, or else as the machine has, and at
+/// most 63.
 pub fn threads_of<H: Threads>(rt: &H, asked: Option<u64>) -> u32
     ensures { result ≤ 63 }
 {
@@ -62,7 +64,7 @@ fn learn(readers: Vec<BoardReader<Global>>, published: &Published) -> Vec<BoardR
     readers
 }
 
-// Publishes the log as it was opened, which each reader then sees.
+// Publishes the log as it was opened, so that each reader sees it.
 fn publish_first<O: BoardLog>(
     log: &mut O,
     readers: Vec<BoardReader<Global>>,
@@ -79,7 +81,7 @@ fn publish_first<O: BoardLog>(
     }
 }
 
-// What each thread answers from.
+// Returns what each thread answers from.
 fn resources_of(
     alloc: Global,
     readers: Vec<BoardReader<Global>>,
@@ -93,7 +95,7 @@ fn resources_of(
 }
 
 impl<H: Host + Net<Listener = TcpListener, Stream = TcpStream>, G: Gate> Server<'_, H, G> {
-    // Serves a log in memory that was opened with so many entries, and is to be sent these.
+    // Serves a log in memory that was opened with this many entries, and is to be sent these.
     fn serve_opened<O: BoardLog, R: Read + Send, L: Write>(
         &self,
         opened: O,
@@ -141,7 +143,7 @@ impl<H: Host + Net<Listener = TcpListener, Stream = TcpStream>, G: Gate> Server<
         )
     }
 
-    // Serves a log in memory that begins with no entry.
+    // Serves a log in memory that begins empty.
     fn serve_new<R: Read + Send, L: Write>(
         &self,
         signers: Vec<Box<dyn Signer>>,
@@ -201,7 +203,7 @@ impl<H: Host + Net<Listener = TcpListener, Stream = TcpStream>, G: Gate> Server<
     }
 }
 
-/// `run_serve` where the thread of each lane passes this gate before it sends.
+/// Serves as `run_serve` does, but the thread of each lane passes this gate before it sends.
 pub fn serve_gated<
     H: Host + Net<Listener = TcpListener, Stream = TcpStream>,
     R: Read + Send,
@@ -244,10 +246,11 @@ pub fn serve_gated<
     }
 }
 
-/// Serves the log of the lines of the input over HTTP: tells the address, then answers connections, each by
-/// `tl_server::serve_log`, and ends after as many as the options say, or once something fails. A thread for each lane
-/// sends its entries, and this one takes and publishes them. In the end the log is closed. `input` is the descriptor of
-/// the reader, where lines are followed and there is one to wait for. It may wait.
+/// Serves the log of the lines of the input over HTTP. It reports the address, then answers
+/// connections, each by `tl_server::serve_log`, and ends after as many as the options say, or once
+/// something fails. A thread for each lane sends its entries, and this one takes and publishes
+/// them. In the end the log is closed. `input` is the descriptor of the reader, if lines are
+/// followed and there is one to wait for. It may wait.
 pub fn run_serve<
     H: Host + Net<Listener = TcpListener, Stream = TcpStream>,
     R: Read + Send,

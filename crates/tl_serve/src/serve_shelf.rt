@@ -1,4 +1,4 @@
-//! The command `serve` on a shelf: a running log over HTTP that outlasts its server.
+//! The command `serve` on a shelf: a running log over HTTP that outlives its server.
 
 ghost use Rattle.std.specs.Prelude.{◌≡◌, ◌⊎◌, ◌∷◌, [], All, IfOk, OnOk, string_bytes};
 ghost use Rattle.sha2.specs.Sha256.{sha256};
@@ -37,16 +37,16 @@ use tl_loop::PublishLoop;
 use tl_note::is_key_name;
 use tl_sequencer::{Intake, OpenFault, Submitter};
 
-/// A shelf that is given back, and how the server that had it ended.
+/// A shelf that is given back, and how its server ended.
 #[derive(Drop)]
 pub struct Served<S> {
     /// The shelf.
     pub shelf: S,
-    /// How it ended.
+    /// How the server ended.
     pub outcome: Result<(), RunFault>,
 }
 
-// What each thread answers from.
+// Returns what each thread answers from.
 fn resources_of<P: Drop>(
     alloc: Global,
     shown: Vec<P>,
@@ -59,7 +59,7 @@ fn resources_of<P: Drop>(
     Ok(resources)
 }
 
-// The lanes of a log that has so many entries already, and their submitters.
+// Returns the lanes of a log that has this many entries already, and their submitters.
 fn open_lanes(
     alloc: Global,
     before: u64,
@@ -79,7 +79,7 @@ fn open_lanes(
     }
 }
 
-// A log that was found on a shelf, its lanes, and what answers.
+// A log that was found on a shelf, its lanes, and what it is answered from.
 #[derive(Drop)]
 struct Opened<P> {
     log: OpenedLog,
@@ -89,7 +89,7 @@ struct Opened<P> {
     lines: Lines<Global>,
 }
 
-// Opens the log on a shelf, and the lanes that the options want.
+// Opens the log on a shelf, and the lanes that the options ask for.
 fn open_log<S: LogShelf + Drop, P: Drop, R: Read>(
     alloc: Global,
     options: &ServeOptions,
@@ -143,7 +143,7 @@ fn open_log<S: LogShelf + Drop, P: Drop, R: Read>(
     })
 }
 
-// Closes a log that ran, where its publish_loop says so, and tells that.
+// Closes a log that ran, if that is the next step of its loop, and reports it.
 fn close<S: LogShelf + Drop, L: Write>(
     alloc: Global,
     log: &ShelfLog<S>,
@@ -164,7 +164,8 @@ fn close<S: LogShelf + Drop, L: Write>(
     tell_end(alloc, publish_loop, size, is_quiet, out)
 }
 
-// What a log of so many entries on a shelf has, which may be due: the last of them are remembered, if any are.
+// Returns what a log of this size on a shelf has, and whether a publication is due. The last
+// entries are remembered, if any are.
 fn base_of<H: Host + Net<Listener = TcpListener, Stream = TcpStream>, S: Shelf>(
     server: &Server<'_, H, OpenGate>,
     shelf: &S,
@@ -180,7 +181,7 @@ fn base_of<H: Host + Net<Listener = TcpListener, Stream = TcpStream>, S: Shelf>(
     }
 }
 
-// Serves the log on a shelf under these keys.
+// Serves the log on a shelf with these keys.
 fn serve_under<
     H: Host + Net<Listener = TcpListener, Stream = TcpStream>,
     S: LogShelf + Drop,
@@ -244,11 +245,12 @@ fn serve_under<
     Served { shelf, outcome }
 }
 
-/// As `run_serve`, but the log is on a shelf, where it begins or goes on, and is served at this site: what its lanes
-/// give is put behind it, published, and told once it outlasts a crash. A thread for each of `shown`, which are to be of
-/// the same shelf (`threads_of` tells how many), answers with what is there. The server ends if the shelf fails. The
-/// shelf is given back; `found` has what was read of it. It may wait. `NothingThere`, `Taken`: there was no log, or there
-/// was one where one is to begin. `Older`: it hasn't got `start` entries.
+/// Serves as `run_serve` does, but at this site, and with the log on a shelf, where it begins or
+/// goes on. What its lanes give is appended, published, and reported once it survives a crash. A
+/// thread for each of `shown`, of which there are `threads_of`, answers with what is there. The
+/// server ends if the shelf fails. The shelf is given back; `found` has what was read. It may wait.
+/// `NothingThere`: no log is there. `Taken`: one is, but is to begin. `Older`: it lacks `start`
+/// entries.
 pub fn run_serve_shelf<
     H: Host + Net<Listener = TcpListener, Stream = TcpStream>,
     S: LogShelf + Drop,

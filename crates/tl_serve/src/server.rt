@@ -31,7 +31,7 @@ use tl_command::RunFault;
 use tl_device::Counted;
 use tl_lines::Lines;
 
-// What is told before size and root.
+// The word that is reported before size and root.
 const PUBLISHED: &str = "published ";
 
 /// What a log is served with.
@@ -45,8 +45,8 @@ pub(crate) struct Server<'s, H, G> {
     pub(crate) gate: &'s G,
 }
 
-/// What a log has that is to be served: so many entries, of which some are remembered. Where it is due, the last of
-/// them aren't shown yet.
+/// What a log that is to be served has: its size, and the entries that are remembered. If it is
+/// due, the last entries aren't shown yet.
 #[derive(Drop)]
 pub(crate) struct Base {
     pub(crate) size: u64,
@@ -63,7 +63,8 @@ struct Prepared<'r, R> {
 }
 
 impl<H: Host + Net<Listener = TcpListener, Stream = TcpStream>, G: Gate> Server<'_, H, G> {
-    /// How many readers the board has: one for each thread that answers, and one for that which tells.
+    /// Returns how many readers the board has: one for each thread that answers, and one for the
+    /// thread that reports.
     pub(crate) fn readers(&self) -> u32 {
         threads_of(self.rt, self.options.server.threads) + 1
     }
@@ -73,7 +74,8 @@ impl<H: Host + Net<Listener = TcpListener, Stream = TcpStream>, G: Gate> Server<
         self.options.follow || self.options.takes_posts
     }
 
-    // How much is taken at a time from so many lanes, behind so many entries, and what is told.
+    // Returns how much is taken at a time from this many lanes, after this many entries, and what
+    // is reported.
     fn rounds(&self, before: u64, lanes: usize) -> Rounds {
         Rounds {
             before,
@@ -97,7 +99,7 @@ impl<H: Host + Net<Listener = TcpListener, Stream = TcpStream>, G: Gate> Server<
         }
     }
 
-    // Opens the listener, and tells where it is, and whether the log is in memory alone.
+    // Opens the listener, and reports the address, and whether the log is in memory alone.
     fn open_listener<L: Write>(
         &self,
         bound: &BoundListener,
@@ -113,7 +115,8 @@ impl<H: Host + Net<Listener = TcpListener, Stream = TcpStream>, G: Gate> Server<
         Ok(listener)
     }
 
-    // The lines that are followed, if any are, and what wakes the thread that waits for them.
+    // Returns the lines that are followed, if any are, and what wakes the thread that waits for
+    // them.
     fn follow<'r, R: Read + Send>(
         &self,
         lines: Lines<Global>,
@@ -133,7 +136,7 @@ impl<H: Host + Net<Listener = TcpListener, Stream = TcpStream>, G: Gate> Server<
         Ok((Some(followed), Some(waker)))
     }
 
-    // The queue, if entries are taken that are posted, whose lane is the last of so many.
+    // Returns the queue, if posted entries are taken. Its lane is the last of this many.
     fn open_queue(&self, base: Base, lanes: usize) -> Result<Option<SubmitQueue>, RunFault> {
         if !self.options.takes_posts {
             return Ok(None);
@@ -150,7 +153,8 @@ impl<H: Host + Net<Listener = TcpListener, Stream = TcpStream>, G: Gate> Server<
         Ok(Some(queue))
     }
 
-    // What a log is served with beside its resources: what is followed, what the threads tell, and the listener.
+    // Returns what a log is served with beside its resources: the followed lines, the signals, and
+    // the listener.
     fn prepare<'r, R: Read + Send, L: Write>(
         &self,
         site: &Site<'_>,
@@ -176,7 +180,7 @@ impl<H: Host + Net<Listener = TcpListener, Stream = TcpStream>, G: Gate> Server<
         })
     }
 
-    /// What is remembered of posted entries: none yet.
+    /// Returns the list of remembered entries, empty at first.
     pub(crate) fn remembered(&self) -> Remembered {
         let most = if self.options.takes_posts {
             self.options.remember
@@ -186,7 +190,7 @@ impl<H: Host + Net<Listener = TcpListener, Stream = TcpStream>, G: Gate> Server<
         Remembered::new(self.rt, self.alloc, most)
     }
 
-    /// Serves a log at a site that was published, or is due, and hands it back.
+    /// Serves a log at a site that was published, or is due, and gives it back.
     pub(crate) fn serve_published<O: LiveLog, P: Resources + Send, R: Read + Send, L: Write>(
         &self,
         site: &Site<'_>,

@@ -1,4 +1,4 @@
-//! How the threads of a running log are started, and how they end.
+//! How the threads of a running log start and end.
 
 ghost use Rattle.std.specs.Global.{Global as GlobalValue};
 ghost use Rattle.std.specs.Prelude.{All, IfOk};
@@ -27,7 +27,7 @@ use tl_command::RunFault;
 use tl_device::Counted;
 use tl_loop::{Event, PublishLoop, Step};
 
-/// What all threads of a log are told by.
+/// What all threads of a log share.
 #[derive(Drop)]
 pub(crate) struct Common<'c, H, G> {
     pub(crate) rt: &'c H,
@@ -35,11 +35,11 @@ pub(crate) struct Common<'c, H, G> {
     pub(crate) listener: &'c Listener,
     pub(crate) gate: &'c G,
     pub(crate) signals: &'c Signals,
-    // For how many milliseconds entries that came wait for more.
+    // How many milliseconds entries that came wait for more.
     pub(crate) interval: u64,
 }
 
-// Starts the thread that sends what comes from a source, by the last of the lanes.
+// Starts the thread that sends what comes from a source, by the last lane.
 fn start_last<'s, E, H: Host, S: Source + 's>(
     scope: &'s Scope<'s, E>,
     rt: &'s H,
@@ -59,7 +59,8 @@ fn start_last<'s, E, H: Host, S: Source + 's>(
     start_following(scope, rt, source, lane, signals)
 }
 
-// Starts the threads that send what doesn't come from the queue: one for each lane, or the one that follows the input.
+// Starts the threads that send all but submitted entries: one for each lane, or the one that
+// follows the input.
 fn start_lines<'s, E, H: Host, S: Source + 's, G: Gate>(
     scope: &'s Scope<'s, E>,
     rt: &'s H,
@@ -82,7 +83,8 @@ fn start_lines<'s, E, H: Host, S: Source + 's, G: Gate>(
     Ok(threads)
 }
 
-// Starts the threads that send: that of the queue, if there is one, by the last lane, and those of all else.
+// Starts the threads that send: that of the queue, if there is one, by the last lane, and those of
+// all else.
 fn start_sending<'s, E, H: Host, S: Source + 's, G: Gate>(
     scope: &'s Scope<'s, E>,
     rt: &'s H,
@@ -106,14 +108,14 @@ fn start_sending<'s, E, H: Host, S: Source + 's, G: Gate>(
     Ok(threads)
 }
 
-/// A log that ran, and its publish_loop once all threads have ended; or why they weren't started.
+/// A log that ran, and its loop once all threads have ended, or why they weren't started.
 #[derive(Drop)]
 pub(crate) struct Ran<O> {
     pub(crate) running: Running<O>,
     pub(crate) publish_loop: Result<PublishLoop<RunFault>, RunFault>,
 }
 
-/// What a log ends with that isn't to be closed: the fault that its publish_loop has.
+/// Returns the fault that a log ends with if it isn't to be closed: that of its loop.
 pub(crate) fn fault_of(publish_loop: PublishLoop<RunFault>) -> RunFault {
     match publish_loop.after(Event::Done(0)).step() {
         Step::End(Err(fault)) => fault,
@@ -121,7 +123,8 @@ pub(crate) fn fault_of(publish_loop: PublishLoop<RunFault>) -> RunFault {
     }
 }
 
-/// Whether the log is to be closed now, since nothing is owed any more. Else the fault that its publish_loop has.
+/// Returns the loop if the log is to be closed now, since nothing is owed any more. Fails with the
+/// fault of the loop if it isn't.
 pub(crate) fn check_closing(
     publish_loop: Result<PublishLoop<RunFault>, RunFault>,
 ) -> Result<PublishLoop<RunFault>, RunFault> {
@@ -132,7 +135,7 @@ pub(crate) fn check_closing(
     }
 }
 
-/// Tells that the log is closed with so many entries, unless nothing is told.
+/// Reports that the log is closed with this many entries, unless nothing is reported.
 pub(crate) fn tell_end<L: Write>(
     alloc: Global,
     publish_loop: PublishLoop<RunFault>,
@@ -147,7 +150,7 @@ pub(crate) fn tell_end<L: Write>(
     }
 }
 
-// Takes in what is left of what was sent, where that is the step, and goes on.
+// Takes in what is left of what was sent, if that is the next step, and goes on.
 fn drive_rest<O: LiveLog, F: Feed, L: Write>(
     alloc: Global,
     running: &mut Running<O>,
@@ -170,7 +173,8 @@ fn drive_rest<O: LiveLog, F: Feed, L: Write>(
     publish_loop
 }
 
-// Starts the threads, carries the log's steps out and takes in the ends of its lanes: what its publish_loop comes to.
+// Starts the threads, carries out the log's steps and takes in the ends of its lanes. Returns what
+// its loop came to.
 fn run_threads<
     's,
     E,
@@ -206,7 +210,7 @@ fn run_threads<
     Ok(drive_rest(alloc, running, publish_loop, sent, &mut feed, out))
 }
 
-// The same; however it ended, all threads end.
+// Does the same, and has all threads end, however it ended.
 fn run_in<
     's,
     E,
@@ -247,8 +251,8 @@ fn run_in<
     }
 }
 
-/// Runs a log that was opened and published once, until its connections are answered or something fails, and hands it
-/// back. It isn't closed yet.
+/// Runs a log that was opened and published once, until its connections are answered or something
+/// fails, and gives it back. It isn't closed yet.
 pub(crate) fn run_log<
     H: Host + Net<Listener = TcpListener, Stream = TcpStream>,
     O: LiveLog,

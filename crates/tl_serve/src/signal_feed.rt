@@ -1,4 +1,4 @@
-//! What the thread that carries steps out learns, and when a publication is due.
+//! What the thread that carries out steps learns, and when a publication is due.
 
 ghost use Rattle.std.specs.Prelude.{◌≡◌};
 
@@ -10,8 +10,8 @@ use std::time::{Clock, Duration, Instant};
 use tl_command::RunFault;
 use tl_loop::Event;
 
-/// What happens beside the thread that carries steps out, as the other threads tell, and when what was taken in has
-/// waited long enough for more.
+/// What happens beside the thread that carries out steps, as the other threads signal it, and when
+/// what was taken in has waited long enough for more.
 #[derive(Drop)]
 pub(crate) struct SignalFeed<'n, H> {
     rt: &'n H,
@@ -19,13 +19,14 @@ pub(crate) struct SignalFeed<'n, H> {
     listener: &'n Listener,
     // How long entries that were taken in wait for more.
     interval: Duration,
-    // How many were published when those came that wait, and since when they do.
+    // How many entries were published when those that wait came, and since when they wait.
     published: Option<u64>,
     since: Option<Instant>,
 }
 
 impl<'n, H: Wait + Clock> SignalFeed<'n, H> {
-    /// Nothing yet. What was taken in waits for so many milliseconds, and for none what is due at first.
+    /// Returns a feed of which nothing came yet. What was taken in waits for this many
+    /// milliseconds, but what is due at first doesn't wait.
     pub(crate) fn new(
         rt: &'n H,
         signals: &'n Signals,
@@ -43,7 +44,7 @@ impl<'n, H: Wait + Clock> SignalFeed<'n, H> {
         }
     }
 
-    // Takes note of whether entries wait, and since when. So many were published when they came.
+    // Records whether entries wait, and since when. This many were published when they came.
     fn note(&mut self, published: Option<u64>)
         ensures { (self.new.rt ≡ self.old.rt) × (self.new.signals ≡ self.old.signals)
             × (self.new.listener ≡ self.old.listener) }
@@ -54,7 +55,7 @@ impl<'n, H: Wait + Clock> SignalFeed<'n, H> {
         }
     }
 
-    // How long they wait on; no time where the machine's clock can't be read.
+    // Returns how long they still wait, which is no time if the machine's clock can't be read.
     fn left(&self) -> Duration {
         let Some(since) = self.since else {
             return Duration::ZERO;
@@ -65,7 +66,7 @@ impl<'n, H: Wait + Clock> SignalFeed<'n, H> {
         }
     }
 
-    // Waits until something happens, or a publication is due: then there is no signals.
+    // Waits until something happens, or a publication is due: then there is no event.
     fn signal_or_due(&self) -> Option<Event<RunFault>> {
         let left = self.left();
         if let Some(fault) = self.signals.fault(self.rt) {

@@ -1,4 +1,4 @@
-//! What the threads of a server tell the one that carries steps out.
+//! What the threads of a server signal to the one that carries out steps.
 
 use crate::submit_queue::SubmitQueue;
 use crate::watch::Watch;
@@ -12,35 +12,36 @@ use tl_command::RunFault;
 use tl_cosign::Ballot;
 use tl_loop::Event;
 
-/// What happens beside the thread that carries steps out.
+/// What happens beside the thread that carries out steps.
 #[derive(Drop)]
 pub(crate) struct Signals {
     watch: Mutex<Watch>,
     waker: Waker,
     // What wakes the thread that follows the input, if one does.
     following: Option<Waker>,
-    // Where connections hand entries in, if they may.
+    // Where connections submit entries, if they may.
     queue: Option<SubmitQueue>,
-    // Who asks witnesses about what the log proposes, if they are asked.
+    // The ballot by which witnesses are asked about what the log proposes, if they are asked.
     ballot: Option<Arc<Ballot>>,
-    // Whether entries were sent since they were last looked for.
+    // Whether entries were sent since the last look for them.
     has_entries: AtomicBool,
-    // Whether the input ended since that was last looked for.
+    // Whether the input ended since the last look for that.
     has_ended: AtomicBool,
-    // Lines that were too long and are not told yet.
+    // Lines that were too long and are not reported yet.
     too_long: Mutex<Vec<u64>>,
     fault: Mutex<Option<RunFault>>,
-    // How many threads answer and send.
+    // How many threads answer, and how many send.
     answering: AtomicU64,
     sending: AtomicU64,
-    // Whether all connections are answered, and whether nothing is taken any more.
+    // Whether all connections are answered, and whether nothing more is taken.
     is_over: AtomicBool,
     is_stopped: AtomicBool,
 }
 
 impl Signals {
-    /// Nothing yet. `following` wakes the thread that follows the input, if one does; at the queue, if there is one,
-    /// connections hand entries in; by the ballot, if there is one, witnesses are asked. `Read`: the system refuses.
+    /// Returns signals of which none is given yet. `following` wakes the thread that follows the
+    /// input, if one does. Connections submit entries to the queue, and witnesses are asked by the
+    /// ballot, if there is one. `Read`: the system refuses.
     pub(crate) fn new<H: Net>(
         rt: &H,
         alloc: Global,
@@ -66,17 +67,17 @@ impl Signals {
         })
     }
 
-    // Wakes the thread that carries steps out.
+    // Wakes the thread that carries out steps.
     fn wake(&self) {
         let _ = self.waker.wake();
     }
 
-    /// A thread begins to answer.
+    /// Records that a thread begins to answer.
     pub(crate) fn begin_answering(&self) {
         self.answering.fetch_add(1, Ordering::SeqCst);
     }
 
-    /// A thread that answered ends. Once all have, the input is followed to its end.
+    /// Records that a thread that answered ends. Once all have, the input is followed to its end.
     pub(crate) fn end_answering(&self) {
         if self.answering.fetch_sub(1, Ordering::SeqCst) == 1 {
             self.is_over.store(true, Ordering::SeqCst);
@@ -85,18 +86,18 @@ impl Signals {
         }
     }
 
-    /// A thread begins to send.
+    /// Records that a thread begins to send.
     pub(crate) fn begin_sending(&self) {
         self.sending.fetch_add(1, Ordering::SeqCst);
     }
 
-    /// A thread that sent ends.
+    /// Records that a thread that sent ends.
     pub(crate) fn end_sending(&self) {
         self.sending.fetch_sub(1, Ordering::SeqCst);
         self.wake();
     }
 
-    // Wakes the threads that send what comes: from the input, and from the queue.
+    // Wakes the threads that send what comes from the input and from the queue.
     fn wake_senders(&self) {
         if let Some(waker) = &self.following {
             let _ = waker.wake();
@@ -106,7 +107,7 @@ impl Signals {
         }
     }
 
-    /// Where connections hand entries in, if they may.
+    /// Returns where connections submit entries, if they may.
     pub(crate) fn queue(&self) -> Option<&SubmitQueue> {
         self.queue.as_ref()
     }
@@ -116,25 +117,26 @@ impl Signals {
         self.is_over.load(Ordering::SeqCst)
     }
 
-    /// From now on nothing is taken any more: those that send end.
+    /// Has nothing more taken from now on: the threads that send end.
     pub(crate) fn stop(&self) {
         self.is_stopped.store(true, Ordering::SeqCst);
         self.wake_senders();
     }
 
-    /// Whether nothing is taken any more.
+    /// Whether nothing more is taken.
     pub(crate) fn is_stopped(&self) -> bool {
         self.is_stopped.load(Ordering::SeqCst)
     }
 
-    /// Something came that waits for witnesses, if they are asked about what is proposed: that is done again soon.
+    /// Has witnesses asked again soon, if they are asked about what is proposed: something came
+    /// that waits for them.
     pub(crate) fn urge(&self) {
         if let Some(ballot) = &self.ballot {
             ballot.urge();
         }
     }
 
-    /// Entries were sent.
+    /// Signals that entries were sent.
     pub(crate) fn notify_entries(&self) {
         self.urge();
         if !self.has_entries.swap(true, Ordering::SeqCst) {
@@ -142,20 +144,20 @@ impl Signals {
         }
     }
 
-    /// The input has ended.
+    /// Signals that the input has ended.
     pub(crate) fn notify_end(&self) {
         self.has_ended.store(true, Ordering::SeqCst);
         self.wake();
     }
 
-    /// The line with this number is too long.
+    /// Signals that the line with this number is too long.
     pub(crate) fn notify_too_long<H: Wait>(&self, rt: &H, line: u64) -> Result<(), RunFault> {
         self.too_long.lock(rt).push(line)?;
         self.wake();
         Ok(())
     }
 
-    /// Something failed beside the thread that carries steps out. The first fault counts.
+    /// Signals a fault beside the thread that carries out steps. The first one counts.
     pub(crate) fn report_fault<H: Wait>(&self, rt: &H, fault: RunFault) {
         let mut first = self.fault.lock(rt);
         if first.is_none() {
@@ -164,12 +166,12 @@ impl Signals {
         self.wake();
     }
 
-    /// What failed beside the thread that carries steps out.
+    /// Returns the fault beside the thread that carries out steps, if there is one.
     pub(crate) fn fault<H: Wait>(&self, rt: &H) -> Option<RunFault> {
         *self.fault.lock(rt)
     }
 
-    // The next line that is too long.
+    // Returns the next line that is too long.
     fn next_too_long<H: Wait>(&self, rt: &H) -> Option<u64> {
         let mut lines = self.too_long.lock(rt);
         if lines.is_empty() {
@@ -178,12 +180,12 @@ impl Signals {
         Some(lines.remove(0))
     }
 
-    // Whether all that were to answer and to send have ended.
+    // Whether all threads that were to answer and to send have ended.
     fn are_done(&self) -> bool {
         self.answering.load(Ordering::SeqCst) == 0 && self.sending.load(Ordering::SeqCst) == 0
     }
 
-    // What happened since the last look, what is most urgent first.
+    // Returns what happened since the last look, the most urgent first.
     fn look<H: Wait>(&self, rt: &H) -> Option<Event<RunFault>> {
         if let Some(fault) = self.fault(rt) {
             return Some(Event::Failed(fault));
@@ -203,7 +205,8 @@ impl Signals {
         None
     }
 
-    /// Waits until something happens, no longer than this; then nothing has. `Read`: the system refuses to wait.
+    /// Waits until something happens, at most this long. Returns none if nothing does. `Read`: the
+    /// system refuses to wait.
     pub(crate) fn wait_for<H: Wait>(
         &self,
         rt: &H,

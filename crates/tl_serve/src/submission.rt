@@ -1,4 +1,4 @@
-//! The turn of a connection at the queue.
+//! The submission of a connection.
 
 use crate::receipt::Receipt;
 use crate::signals::Signals;
@@ -6,20 +6,20 @@ use crate::submit_queue::{SubmitFault, SubmitQueue};
 use std::sync::{Arc, Wait};
 use tl_server::{EntryStatus, Submits};
 
-/// The turn of a connection at the queue, if there is one: what it hands in is taken once, and known by its receipt
-/// then.
+/// The submission of a connection, if there is a queue. Its entry is taken once, and known by its
+/// receipt then.
 #[derive(Drop)]
 pub(crate) struct Submission<'t, H> {
     pub(crate) rt: &'t H,
     pub(crate) signals: &'t Signals,
-    // That of what it handed in, if it did.
+    // The receipt of its entry, once that is submitted.
     pub(crate) receipt: Option<Arc<Receipt>>,
-    // Whether it has waited for its place long enough.
+    // Whether it has waited long enough for the index.
     pub(crate) is_late: bool,
 }
 
 impl<H: Wait> Submission<'_, H> {
-    // What is told of the entry that was handed in.
+    // Returns the status of the submitted entry.
     fn look(&self, queue: &SubmitQueue) -> EntryStatus {
         let Some(receipt) = &self.receipt else {
             return EntryStatus::Refused;

@@ -1,4 +1,4 @@
-//! The queue, where connections hand entries in and learn their places.
+//! The queue to which connections submit entries, and from which they learn the indexes.
 
 use crate::receipt::Receipt;
 use crate::remembered::Remembered;
@@ -14,8 +14,8 @@ use tl_device::DeviceFault;
 use tl_hash::{Hash, Sha256Tree, leaf_hash};
 use tl_tile::{Resource, bundle_width};
 
-// What was handed in: entries that are to be sent to the log yet, and the receipts of all that have no place yet, both
-// in the order in which they came.
+// What was submitted: the entries that are still to be sent to the log, and the receipts of all
+// that have no index yet, both in the order in which they came.
 #[derive(Drop)]
 struct Submitted {
     entries: Vec<Vec<u8>>,
@@ -27,7 +27,7 @@ struct Submitted {
 pub(crate) enum SubmitFault {
     /// There is no room for it now.
     Refused,
-    /// Memory was refused.
+    /// Allocation failed.
     NoMemory,
 }
 
@@ -43,8 +43,8 @@ impl<X: Drop> From<AllocFailed<X>> for SubmitFault {
     }
 }
 
-/// Where connections hand entries in. A thread of its own sends them to the log in their order, by a lane of its own,
-/// and the thread that publishes tells their places.
+/// The queue to which connections submit entries. A thread of its own sends them to the log in
+/// order, by a lane of its own. The thread that publishes reports their indexes.
 #[derive(Drop)]
 pub(crate) struct SubmitQueue {
     alloc: Global,
@@ -53,16 +53,17 @@ pub(crate) struct SubmitQueue {
     room: usize,
     submitted: Mutex<Submitted>,
     remembered: Mutex<Remembered>,
-    // What the thread waits with that sends, and what wakes it.
+    // What the sending thread waits with, and what wakes it.
     watch: Mutex<Watch>,
     waker: Waker,
-    // How many entries the log had when it was published last.
+    // How many entries the log had when it was last published.
     published: AtomicU64,
 }
 
 impl SubmitQueue {
-    /// A queue whose entries go by this lane to a log of so many entries, which are published, and some remembered. So
-    /// many may wait to be sent. `Read`: the system refuses to wait for them.
+    /// Returns a queue whose entries go by this lane to a log with this many entries, which are
+    /// published, and of which some are remembered. At most `room` entries wait to be sent. `Read`:
+    /// the system refuses to wait for them.
     pub(crate) fn new<H: Net>(
         rt: &H,
         alloc: Global,
@@ -87,7 +88,7 @@ impl SubmitQueue {
         })
     }
 
-    // Takes an entry in that isn't remembered.
+    // Appends an entry that isn't remembered.
     fn push<H: Wait>(&self, rt: &H, entry: &[u8], leaf: Hash) -> Result<Arc<Receipt>, SubmitFault> {
         let entry = Vec::from_slice(self.alloc, entry)?;
         let receipt = Arc::new(self.alloc, Receipt::new(leaf, None))?;
@@ -105,8 +106,8 @@ impl SubmitQueue {
         Ok(receipt)
     }
 
-    /// Takes an entry in, unless it is remembered: by its receipt its place is known once it was published. From then on
-    /// it is remembered.
+    /// Takes an entry, unless it is remembered, and returns its receipt. The receipt gives the
+    /// index once that is published. From now on the entry is remembered.
     pub(crate) fn submit<H: Wait>(
         &self,
         rt: &H,
@@ -129,7 +130,8 @@ impl SubmitQueue {
         let _ = self.waker.wake();
     }
 
-    /// Waits until something was handed in, or nothing is any more. `Read`: the system refuses to wait.
+    /// Waits until something is submitted, or nothing will be any more. `Read`: the system refuses
+    /// to wait.
     pub(crate) fn wait<H: Wait>(&self, rt: &H) -> Result<(), RunFault> {
         self.watch.lock(rt).wait(None)
     }
@@ -139,13 +141,13 @@ impl SubmitQueue {
         self.submitted.lock(rt).entries.is_empty()
     }
 
-    /// Takes out the entries that are to be sent.
+    /// Removes the entries that are to be sent, and returns them.
     pub(crate) fn drain<H: Wait>(&self, rt: &H) -> Vec<Vec<u8>> {
         let mut submitted = self.submitted.lock(rt);
         std::mem::replace(&mut submitted.entries, Vec::new(self.alloc))
     }
 
-    /// Notes that the log took so many entries of a lane in, the first of them at this index.
+    /// Records that the log took in this many entries of a lane, the first of them at this index.
     pub(crate) fn note_taken<H: Wait>(&self, rt: &H, lane: u32, index: u64, count: u64) {
         if lane != self.lane {
             return;
@@ -159,12 +161,12 @@ impl SubmitQueue {
         }
     }
 
-    /// Notes that so many entries of the log are published.
+    /// Records that this many entries of the log are published.
     pub(crate) fn note_published(&self, size: u64) {
         self.published.store(size, Ordering::SeqCst);
     }
 
-    /// The fault of a log that hasn't got this entry where it was told to be: its bundle is damaged.
+    /// Returns the fault of a log that doesn't have this entry at its index: its bundle is damaged.
     pub(crate) fn damage(&self, receipt: &Receipt) -> RunFault {
         let size = self.published();
         let Some(entry) = receipt.index_below(size) else {
@@ -176,7 +178,7 @@ impl SubmitQueue {
         RunFault::Device(place, DeviceFault::Damaged)
     }
 
-    /// How many entries of the log are published.
+    /// Returns how many entries of the log are published.
     pub(crate) fn published(&self) -> u64 {
         self.published.load(Ordering::SeqCst)
     }

@@ -1,4 +1,4 @@
-//! The server of a witness: the connections that are answered, and by which threads.
+//! The server of a witness: which connections are answered, and by which threads.
 
 use crate::answering::answer;
 use crate::bound_listener::BoundListener;
@@ -33,7 +33,8 @@ struct Asked<'w, 'o, H, W, O> {
     signals: &'w Signals,
 }
 
-// The seconds since 1970 to cosign with: those that were given, or else those of the machine's clock.
+// Returns the seconds since 1970 to cosign with: those that were given, or else those of the
+// machine's clock.
 fn seconds<H: Clock>(rt: &H, given: Option<u64>) -> u64 {
     if let Some(seconds) = given {
         return seconds;
@@ -86,7 +87,8 @@ fn answer_witness<H: Clock + Net + Wait, W: Witness<Global>, O: Write>(
     answer(rt, alloc, listener, poll, resources, signals);
 }
 
-// Starts the threads that answer, and waits until all connections are answered or something fails: which of them.
+// Starts the threads that answer, and waits until all connections are answered. Fails as soon as
+// something does.
 fn answer_in<
     's,
     'o: 's,
@@ -147,7 +149,7 @@ fn answer_all<
     })
 }
 
-// Opens the listener of a witness, at its bound, if it has one.
+// Opens the listener of a witness, at its bound address if it has one.
 fn open_listener<H: Host + Net<Listener = TcpListener, Stream = TcpStream>, L: Write>(
     rt: &H,
     alloc: Global,

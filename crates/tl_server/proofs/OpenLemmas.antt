@@ -45,7 +45,7 @@ pub index_takes : (index : ℕ) (text : List ℕ) (o : Passage) (sent : Result (
 index_takes index text o sent result same sends is =
     sent_takes (index_answer index) o sent result (subst (λ (l : List ℕ). Sends (record { status = 200; allow = []; kind = plain_text; body = l }) o sent) same sends) is
 
--- the answer to an entry that isn't where it was told to be was written
+-- the answer to an entry that isn't at the reported index was written
 pub misplaced_whole : (o : Passage) (status : Option ℕ) → Sends (bare 500) o (Ok status) → Takes Misplace o (Ok outcome.Misplaced)
 misplaced_whole o None sends = absurd sends
 misplaced_whole o (Some status) sends = (refl, sends.1)

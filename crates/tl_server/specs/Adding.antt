@@ -1,4 +1,4 @@
--- What a log that takes entries answers to a request. POST /add hands an entry in, and is answered with its index.
+-- What a log that takes entries answers to a request. POST /add submits an entry, and is answered with its index.
 use Rattle.std.specs.Prelude.{◌≡◌, ◌≢◌, ◌⊎◌, ℕ, ◌<◌, ◌≤◌, ◌/◌, ◌%◌, List, [], Bool, Some, codes, decimal, slice_get}
 use Rattle.tl_archive.specs.Shelves.{Held}
 use Rattle.tl_archive.specs.declared.fault.ShelfFault.{ShelfFault}
@@ -21,7 +21,7 @@ use Rattle.tl_server.specs.declared.adding.EntryStatus.TheVariants as entry_stat
 pub data Course : Type 0 where
   -- it is answered
   Reply : Answer → Course
-  -- it is answered with 500: what the pages show doesn't have its entry at the index that was told
+  -- it is answered with 500: the resources don't have its entry at the index that was reported
   Misplace : Course
   -- nothing is answered yet
   Postpone : Course
@@ -34,7 +34,7 @@ bundle_answer bytes = record { status = 200; allow = []; kind = octets; body = b
 abbrev pub index_answer : ℕ → Answer
 index_answer index = record { status = 200; allow = []; kind = plain_text; body = decimal index }
 
--- the pages gave a bundle in which the entry with this index is this one
+-- the resources gave a bundle in which the entry with this index is this one
 pub record HasAt (Gives : Resource → Answer → Type 0) (index : ℕ) (entry : Bytes) : Type 0 where
   pub width : ℕ
   pub entries : List Bytes
@@ -78,7 +78,7 @@ PlaceAnswers Unseen Gives Looks index size entry c =
     × (((a ≡ bare 500) × (c ≡ Reply (bare 500)))
     ⊎ (LacksEntry seen (index % 256) entry a × (c ≡ Misplace)))))
 
--- the same for what was told of an entry
+-- the same for the status of an entry
 abbrev pub StatusAnswers
     : Type 0 → (Resource → Answer → Type 0) → (ℕ → ℕ → ℕ → Answer → Type 0)
     → Bytes → EntryStatus → Course → Type 0
@@ -94,15 +94,15 @@ StatusAnswers Unseen Gives Looks entry (entry_status.At index size) c = PlaceAns
 --     413  it has more than 65,535 bytes
 --     500  it has some, and memory for them was refused
 --     400  the input ends before it
---     --   it is told that its place isn't known yet
---     503  it is told that the log takes nothing now, or hasn't published the entry in time
---     500  it is told that memory was refused
---     500  it is told an index that isn't below the size told with it: misplaced
---     200  it is told an index, and the pages gave a bundle that has the entry there
+--     --   its status: its index isn't known yet
+--     503  its status: the log takes nothing now, or hasn't published the entry in time
+--     500  its status: allocation failed
+--     500  its status: an index that isn't below the size reported with it: misplaced
+--     200  its status: an index, and the resources gave a bundle that has the entry there
 --     500  the bundle was looked for, and a GET of it is answered with 500
 --     500  the bundle was looked for, and what was given isn't the entry: misplaced
--- Unasked says that nobody was asked where an entry is, Tells that one call told this of an entry, Unseen that no page
--- was looked at, Gives what a GET of a page is answered with, Looks what looking for a bundle gave
+-- Unasked says that no entry was submitted, Submits that one call reported this status of an entry, Unseen that no
+-- resource was looked at, Gives what a GET of a resource is answered with, Looks what looking for a bundle gave
 abbrev pub OpenDecides
     : Type 0 → (Bytes → EntryStatus → Type 0)
     → Type 0 → (Resource → Answer → Type 0) → (ℕ → ℕ → ℕ → Answer → Type 0)

@@ -12,8 +12,8 @@
 //!
 //! match serve_open_log(alloc, &mut reader, &mut writer, &mut board, &mut queue) {
 //!     Ok(Outcome::Answered(status)) => {} // the same, or the index of an entry that the board has there
-//!     Ok(Outcome::Later) => {}            // its place isn't known yet: to be called again with the same bytes
-//!     Ok(Outcome::Misplaced) => {}        // the board doesn't have it where the queue said
+//!     Ok(Outcome::Later) => {}            // its index isn't known yet: call again with the same bytes
+//!     Ok(Outcome::Misplaced) => {}        // the board doesn't have it at the reported index
 //!     Ok(Outcome::Nothing) => {}
 //!     Err(_) => {}
 //! }

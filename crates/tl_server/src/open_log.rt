@@ -28,7 +28,7 @@ use tl_tile::{LONGEST_ENTRY, bundle_width};
 /// The most bytes of an entry.
 pub(crate) const MOST_ENTRY: u64 = LONGEST_ENTRY as u64;
 
-// Answers to an entry of which this was told.
+// Answers to an entry with this status.
 fn answer_status<A: Allocator, B: Allocator, O: Write>(
     alloc: A,
     writer: &mut Counted<O>,
@@ -54,7 +54,7 @@ fn answer_status<A: Allocator, B: Allocator, O: Write>(
     answer_looked(writer, index, entry, looked)
 }
 
-// Takes an entry in, of which a head says so much. Some of what follows was read with the head.
+// Receives the body that a head announces, and submits the entry. Some of the body was read with the head.
 fn answer_posted<A: Allocator + Copy, B: Allocator, T: Submits, I: Read, O: Write>(
     alloc: A,
     reader: &mut Counted<I>,
@@ -82,10 +82,9 @@ fn answer_posted<A: Allocator + Copy, B: Allocator, T: Submits, I: Read, O: Writ
 }
 
 /// Answers one request to a log that takes entries: as `serve_log`, and `POST /add` with the index of the entry in its
-/// body, where the board has it there: 405 for another method, 400 without one `Content-Length` (RFC 9112, section 6),
-/// 413 above 65,535 bytes, 400 where the input ends before them, 503 where it isn't published, 500 where memory was
-/// refused or the entry isn't there. Where its place isn't known yet nothing is written: call again with the same
-/// bytes.
+/// body, if the board has it there: 405 for another method, 400 without one `Content-Length` (RFC 9112, section 6),
+/// 413 above 65,535 bytes, 400 if the input ends before them, 503 if it isn't published, 500 if allocation fails or the
+/// entry isn't there. If its index isn't known yet nothing is written: call again with the same bytes.
 pub fn serve_open_log<A: Allocator + Copy, B: Allocator, T: Submits, I: Read, O: Write>(
     alloc: A,
     reader: &mut Counted<I>,

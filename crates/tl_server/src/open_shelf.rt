@@ -26,7 +26,7 @@ use tl_archive::Shelf;
 use tl_device::Counted;
 use tl_tile::bundle_width;
 
-// Answers to an entry of which this was told.
+// Answers to an entry with this status.
 fn answer_status<A: Allocator + Copy, S: Shelf, O: Write>(
     alloc: A,
     writer: &mut Counted<O>,
@@ -52,7 +52,7 @@ fn answer_status<A: Allocator + Copy, S: Shelf, O: Write>(
     answer_looked(writer, index, entry, looked)
 }
 
-// Takes an entry in, of which a head says so much. Some of what follows was read with the head.
+// Receives the body that a head announces, and submits the entry. Some of the body was read with the head.
 fn answer_posted<A: Allocator + Copy, S: Shelf, T: Submits, I: Read, O: Write>(
     alloc: A,
     reader: &mut Counted<I>,
@@ -81,8 +81,8 @@ fn answer_posted<A: Allocator + Copy, S: Shelf, T: Submits, I: Read, O: Write>(
 }
 
 /// Answers one request to a log that takes entries, with what is on a shelf: `POST /add` as `serve_open_log`, and any
-/// other target as `serve_shelf`. A shelf may have the full bundle in place of the one that the size tells: it is read
-/// where that one isn't there.
+/// other target as `serve_shelf`. A shelf may have the full bundle in place of the one for the size: it is read if
+/// that one isn't there.
 pub fn serve_open_shelf<A: Allocator + Copy, S: Shelf, T: Submits, I: Read, O: Write>(
     alloc: A,
     reader: &mut Counted<I>,

@@ -26,7 +26,7 @@ pub record Concluded (Courses : Course → Type 0) (o : Passage) (result : Resul
   pub decided : Courses course
   pub takes : Takes course o result
 
--- what becomes of an entry of which this was told, over a board
+-- what becomes of an entry with this status, over a board
 abbrev pub StatusOnBoard : Type 0 → Past → Past → EntryStatus → Bytes → Course → Type 0
 StatusOnBoard A old new entry_status entry c = StatusAnswers (new ≡ old) (LooksUp A old new) (LooksOnce (LooksUp A old new)) entry entry_status c
 
@@ -35,6 +35,6 @@ abbrev pub StatusOnShelf : Type 0 → Bool → Held → (Resource → ShelfFault
 StatusOnShelf A is_honest held MayFail entry_status entry c =
     StatusAnswers (Unit {0}) (ReadsShelf A is_honest held MayFail) (LooksTwice (ReadsShelf A is_honest held MayFail)) entry entry_status c
 
--- the same of what was told
+-- the same for some status that was reported
 abbrev pub SomeStatus : (Bytes → EntryStatus → Type 0) → (EntryStatus → Bytes → Course → Type 0) → Bytes → Course → Type 0
 SomeStatus Submits Becomes entry c = (entry_status : EntryStatus) × Submits entry entry_status × Becomes entry_status entry c
