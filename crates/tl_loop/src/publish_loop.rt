@@ -180,7 +180,7 @@ impl<F: Copy> PublishLoop<F> {
     }
 
     /// Returns the loop of a log that owes a publication, since what was there isn't shown. It
-    /// waits until the publication is due, and goes on as after `serving`.
+    /// waits until the publication is due, and then goes on as `serving` says.
     pub fn owing(batch: u64, gathers: bool) -> PublishLoop<F>
         ensures value { result ≡ record {
           doing = doing.Waiting;
@@ -219,14 +219,14 @@ impl<F: Copy> PublishLoop<F> {
         }
     }
 
-    // The same loop, doing this.
+    // Returns the same loop, doing this.
     fn now_doing(self, doing: Doing<F>) -> PublishLoop<F>
         ensures { result ≡ now_doing self doing }
     {
         PublishLoop { doing, ..self }
     }
 
-    // The same loop after it took in this many more entries.
+    // Returns the same loop after it took in this many more entries.
     fn with_taken(self, count: u64) -> PublishLoop<F>
         ensures { result ≡ with_taken self count }
     {
@@ -237,7 +237,7 @@ impl<F: Copy> PublishLoop<F> {
         }
     }
 
-    // The same loop once nothing is to be published.
+    // Returns the same loop once nothing is to be published.
     fn without_new(self) -> PublishLoop<F>
         ensures { result ≡ without_new self }
     {
@@ -248,7 +248,7 @@ impl<F: Copy> PublishLoop<F> {
         }
     }
 
-    // What it does next if the last call took in this many entries.
+    // Returns what it does next if the last call took in this many entries.
     fn next_taking(self, count: u64) -> Doing<F>
         ensures { result ≡ next_taking self count }
     {
@@ -264,7 +264,7 @@ impl<F: Copy> PublishLoop<F> {
         Doing::Waiting
     }
 
-    // The same loop after a `Take` that took in this many entries.
+    // Returns the same loop after a `Take` that took in this many entries.
     fn after_taking(self, count: u64) -> PublishLoop<F>
         ensures { result ≡ now_doing (with_taken self count) (next_taking (with_taken self count) count) }
     {
@@ -272,7 +272,7 @@ impl<F: Copy> PublishLoop<F> {
         taken.now_doing(taken.next_taking(count))
     }
 
-    // The same loop after a `TakeRest` that took in this many entries.
+    // Returns the same loop after a `TakeRest` that took in this many entries.
     fn after_rest(self, count: u64) -> PublishLoop<F>
         ensures { result ≡ after_done doing.TakingRest count self }
     {
@@ -284,7 +284,7 @@ impl<F: Copy> PublishLoop<F> {
         }
     }
 
-    // The same loop after its step is done.
+    // Returns the same loop after its step is done.
     fn after_done(self, count: u64) -> PublishLoop<F>
         ensures { result ≡ after_done self.doing count self }
     {
@@ -305,7 +305,7 @@ impl<F: Copy> PublishLoop<F> {
         }
     }
 
-    // The same loop if nothing was new.
+    // Returns the same loop if nothing was new.
     fn after_nothing(self) -> PublishLoop<F>
         ensures { result ≡ after_nothing self.doing self }
     {
@@ -326,7 +326,7 @@ impl<F: Copy> PublishLoop<F> {
         }
     }
 
-    // What it does next after a call failed.
+    // Returns what it does next after a call failed.
     fn after_failure(self, fault: F) -> Doing<F>
         ensures { result ≡ after_failure fault self.doing }
     {
@@ -337,7 +337,7 @@ impl<F: Copy> PublishLoop<F> {
         }
     }
 
-    // What it does next if a publication is due while it waits.
+    // Returns what it does next if a publication is due while it waits.
     fn next_due(self) -> Doing<F>
         ensures { result ≡ next_due self }
     {

@@ -1,5 +1,5 @@
--- Which logs a witness knows, and what is refused before anything is read (C2SP signed-note, "Format", for the names of
--- keys).
+-- Which logs a witness knows, and what is refused before anything is read (C2SP signed-note, "Format", for the names
+-- of keys).
 use Rattle.std.specs.Prelude.{◌≡◌, ⊤, Result, Ok, Err, string_bytes}
 use Rattle.tl_note.specs.Key.{IsKeyName}
 use Rattle.tl_device.specs.Device.{Passage, IsUnread}

@@ -112,8 +112,8 @@ impl Connection {
     }
 
     /// Returns when something is to be done with it even if nothing comes: its time is over, or its
-    /// entry isn't published in time. Then a second is left for the answer, or half of the time if
-    /// that is less.
+    /// entry isn't published in time. In the latter case a second is left for the answer, or half
+    /// of the time if that is less.
     pub(crate) fn due(&self, limit: u64) -> u64 {
         if self.is_waiting() {
             let time = limit.saturating_sub(LAST.min(limit / 2));
@@ -193,7 +193,8 @@ impl Connection {
         }
     }
 
-    // Reads, unless it waits for the index of an entry, and tries to answer.
+    // Reads, unless it waits for the index of an entry, and tries to answer. Returns what to do
+    // next.
     fn read_and_try<H: Wait, P: Resources>(
         &mut self,
         context: &Context<'_, H>,
@@ -229,7 +230,7 @@ impl Connection {
         Next::Close
     }
 
-    // Writes what is left of the answer, by one call.
+    // Writes what is left of the answer, with one call.
     fn write_some(&mut self) -> Next {
         let Some(answer) = &self.answer else {
             return Next::Close;
@@ -273,7 +274,7 @@ impl Connection {
         Next::Close
     }
 
-    /// Goes on as far as it can now.
+    /// Goes on as far as it can now, and returns what to do next.
     pub(crate) fn advance<H: Wait, P: Resources>(
         &mut self,
         context: &Context<'_, H>,

@@ -1,9 +1,10 @@
-//! The commands of the program `tlog` that run a log or a witness: `serve`, in memory or on a shelf, and `witness` over
-//! HTTP, each answered by several threads.
+//! The commands of the program `tlog` that run a log or a witness over HTTP: `serve`, in memory or on a shelf, and
+//! `witness`. Several threads answer.
 //!
 //! ```
 //! let options = ServeOptions { origin, key: LogKey::Secret(secret), .. };
-//! run_serve(&rt, alloc, &options, None, &mut reader, &mut log)?; // reports `listening 127.0.0.1:8080`, and ends in time
+//! // reports `listening 127.0.0.1:8080`, and ends in time
+//! run_serve(&rt, alloc, &options, None, &mut reader, &mut log)?;
 //! ```
 #![tactic(auto)]
 

@@ -127,20 +127,13 @@ impl<H: Host + Net<Listener = TcpListener, Stream = TcpStream>, G: Gate> Server<
             remembered: self.remembered(),
         };
         let site = Site::new(&bound, self.input);
-        let Ran {
-            running,
-            publish_loop,
-        } = self.serve_published(&site, log, base, lanes, resources, lines, reader, out);
-        let publish_loop = check_closing(publish_loop)?;
+        let Ran { running, last } = self.serve_published(
+            &site, log, base, lanes, resources, lines, reader, out,
+        );
+        let last = check_closing(last)?;
         let Running { log, .. } = running;
         let size = log.operator.finish()?;
-        tell_end(
-            self.alloc,
-            publish_loop,
-            size,
-            self.options.server.quiet,
-            out,
-        )
+        tell_end(self.alloc, last, size, self.options.server.quiet, out)
     }
 
     // Serves a log in memory that begins empty.

@@ -147,21 +147,21 @@ fn open_log<S: LogShelf + Drop, P: Drop, R: Read>(
 fn close<S: LogShelf + Drop, L: Write>(
     alloc: Global,
     log: &ShelfLog<S>,
-    publish_loop: Result<PublishLoop<RunFault>, RunFault>,
+    last: Result<PublishLoop<RunFault>, RunFault>,
     is_quiet: bool,
     out: &mut Counted<L>,
 ) -> Result<(), RunFault>
     ensures { OnOk result (IsClosed log.now.intake log.now.is_due) }
 {
-    let publish_loop = match check_closing(publish_loop) {
-        Ok(publish_loop) => publish_loop,
+    let last = match check_closing(last) {
+        Ok(last) => last,
         Err(fault) => return Err(fault),
     };
     let size = match log.finish() {
         Ok(size) => size,
         Err(fault) => return Err(fault),
     };
-    tell_end(alloc, publish_loop, size, is_quiet, out)
+    tell_end(alloc, last, size, is_quiet, out)
 }
 
 // Returns what a log of this size on a shelf has, and whether a publication is due. The last
@@ -235,11 +235,10 @@ fn serve_under<
         let (shelf, outcome) = (log.into_shelf(), Err(fault));
         return Served { shelf, outcome };
     }
-    let Ran {
-        running,
-        publish_loop,
-    } = server.serve_published(site, log, base, lanes, resources, lines, reader, out);
-    let outcome = close(alloc, &running.log, publish_loop, options.server.quiet, out);
+    let Ran { running, last } = server.serve_published(
+        site, log, base, lanes, resources, lines, reader, out,
+    );
+    let outcome = close(alloc, &running.log, last, options.server.quiet, out);
     let Running { log, .. } = running;
     let shelf = log.into_shelf();
     Served { shelf, outcome }

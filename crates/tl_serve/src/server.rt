@@ -217,7 +217,7 @@ impl<H: Host + Net<Listener = TcpListener, Stream = TcpStream>, G: Gate> Server<
             Err(fault) => {
                 return Ran {
                     running,
-                    publish_loop: Err(fault),
+                    last: Err(fault),
                 };
             }
         };

@@ -112,7 +112,7 @@ fn start_sending<'s, E, H: Host, S: Source + 's, G: Gate>(
 #[derive(Drop)]
 pub(crate) struct Ran<O> {
     pub(crate) running: Running<O>,
-    pub(crate) publish_loop: Result<PublishLoop<RunFault>, RunFault>,
+    pub(crate) last: Result<PublishLoop<RunFault>, RunFault>,
 }
 
 /// Returns the fault that a log ends with if it isn't to be closed: that of its loop.
@@ -234,7 +234,7 @@ fn run_in<
     ensures { StaysRunning O.holds O.log O.begun running.log result.running.log }
 {
     let mut running = running;
-    let publish_loop = run_threads(
+    let last = run_threads(
         scope,
         &common,
         &mut running,
@@ -245,10 +245,7 @@ fn run_in<
     );
     common.listener.close();
     common.signals.stop();
-    Ran {
-        running,
-        publish_loop,
-    }
+    Ran { running, last }
 }
 
 /// Runs a log that was opened and published once, until its connections are answered or something

@@ -66,7 +66,8 @@ impl<'n, H: Wait + Clock> SignalFeed<'n, H> {
         }
     }
 
-    // Waits until something happens, or a publication is due: then there is no event.
+    // Returns `Due` if a publication is due. If not, waits for an event until one is, and returns
+    // none if nothing happened.
     fn signal_or_due(&self) -> Option<Event<RunFault>> {
         let left = self.left();
         if let Some(fault) = self.signals.fault(self.rt) {

@@ -6,8 +6,8 @@ use crate::submit_queue::{SubmitFault, SubmitQueue};
 use std::sync::{Arc, Wait};
 use tl_server::{EntryStatus, Submits};
 
-/// The submission of a connection, if there is a queue. Its entry is taken once, and known by its
-/// receipt then.
+/// The submission of a connection. If there is a queue, its entry is taken once, and known by its
+/// receipt from then on.
 #[derive(Drop)]
 pub(crate) struct Submission<'t, H> {
     pub(crate) rt: &'t H,

@@ -25,7 +25,7 @@ use tl_server::{Outcome, ServeFault, Submits, Witness, serve_witness};
 
 // What requests to a witness are answered from.
 #[derive(Drop)]
-struct Asked<'w, 'o, H, W, O> {
+struct WitnessResources<'w, 'o, H, W, O> {
     rt: &'w H,
     witness: &'w W,
     time: Option<u64>,
@@ -48,7 +48,8 @@ fn seconds<H: Clock>(rt: &H, given: Option<u64>) -> u64 {
     }
 }
 
-impl<H: Clock + Wait, W: Witness<Global>, O: Write> Resources for Asked<'_, '_, H, W, O> {
+impl<H: Clock + Wait, W: Witness<Global>, O: Write> Resources
+    for WitnessResources<'_, '_, H, W, O> {
     fn answer<I: Read, Z: Write, T: Submits>(
         &mut self,
         alloc: Global,
@@ -77,7 +78,7 @@ fn answer_witness<H: Clock + Net + Wait, W: Witness<Global>, O: Write>(
     queue: &LineQueue<'_, O>,
     signals: &Signals,
 ) {
-    let resources = Asked {
+    let resources = WitnessResources {
         rt,
         witness,
         time,

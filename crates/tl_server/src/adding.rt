@@ -18,8 +18,8 @@ pub trait Submits {
     ghost use Rattle.tl_hash.specs.Bytes.{Bytes};
     ghost use Rattle.tl_server.specs.declared.adding.EntryStatus.{EntryStatus};
 
-    /// What one call reports of an entry, before and after it. An `impl` need not say anything of it: contracts say by it
-    /// that what is answered was reported, by one call.
+    /// What one call reports of an entry, before and after it. An `impl` need not say anything of
+    /// it: contracts say by it that what is answered was reported, by one call.
     ghost submits: { Self → Self → Bytes → EntryStatus → Type 0 } = { λ _ _ _ _. Unit {0} };
 
     /// Submits this entry, or reports what came of it since.

@@ -7,8 +7,8 @@ use Rattle.tl_ledger.specs.Standing.{Ledger}
 use Rattle.tl_command.specs.Mirror.{LogKey}
 use Rattle.tl_append.specs.Cosigning.{Quorum}
 
--- what a log on a shelf began with: its key, what the shelf kept then and after each call before, and its ledger; where
--- its shelf is, and who must cosign what is shown there
+-- what a log on a shelf began with: its key, what the shelf kept then and after each call before, and its ledger;
+-- where its shelf is, and who must cosign what is shown there
 pub record Begun : Type 0 where
   pub key : LogKey
   pub kept : Kept
