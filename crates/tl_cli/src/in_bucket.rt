@@ -28,7 +28,7 @@ use tl_device::Counted;
 use tl_folder::CrashOutcome;
 use tl_ledger::Found;
 use tl_note::is_key_name;
-use tl_serve::{Entrance, Host, ServeOptions, Served, Site, run_serve_shelf, threads_of};
+use tl_serve::{BoundListener, Host, ServeOptions, Served, Site, run_serve_shelf, threads_of};
 
 /// The options of `append`, and of `build`, into a bucket.
 #[derive(Drop)]
@@ -233,11 +233,11 @@ pub(crate) fn serve_from<
     if !is_key_name(serve.origin.as_str()) {
         return Err(CommandFault::Run(RunFault::BadOrigin));
     }
-    let entrance = match Entrance::open(rt, alloc, &serve.server, errors) {
-        Ok(entrance) => entrance,
+    let bound = match BoundListener::bind(rt, alloc, &serve.server, errors) {
+        Ok(bound) => bound,
         Err(fault) => return Err(CommandFault::Run(fault)),
     };
-    let site = Site::new(&entrance, input);
+    let site = Site::new(&bound, input);
     let key = access_key(rt, alloc, bucket)?;
     let shelf = open_bucket(disk, rt, alloc, bucket, &key, serve.is_new)?;
     let threads = threads_of(rt, serve.server.threads);

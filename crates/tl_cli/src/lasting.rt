@@ -23,7 +23,8 @@ use tl_hash::Sha256Tree;
 use tl_logs::compact_state;
 use tl_note::is_key_name;
 use tl_serve::{
-    Entrance, Host, KnownLogs, ServeOptions, WitnessFault, WitnessOptions, run_serve, run_witness,
+    BoundListener, Host, KnownLogs, ServeOptions, WitnessFault, WitnessOptions, run_serve,
+    run_witness,
 };
 
 // How the batches of standard input are joined: no read of a plain file waits for who writes there.
@@ -201,8 +202,8 @@ fn witness_at<
     path: &str,
     errors: &mut Counted<E>,
 ) -> Result<(), WitnessFault> {
-    let entrance = match Entrance::open(rt, alloc, &options.server, errors) {
-        Ok(entrance) => entrance,
+    let bound = match BoundListener::bind(rt, alloc, &options.server, errors) {
+        Ok(bound) => bound,
         Err(fault) => return Err(WitnessFault::Run(fault)),
     };
     match check_state(rt, path, options.is_new) {
@@ -221,7 +222,7 @@ fn witness_at<
         rt,
         alloc,
         options,
-        Some(&entrance),
+        Some(&bound),
         &mut reader,
         &mut writer,
         errors,

@@ -23,8 +23,8 @@ use tl_folder::{CrashOutcome, FolderShelf};
 use tl_ledger::Found;
 use tl_note::is_key_name;
 use tl_serve::{
-    CosignedLog, Entrance, Host, ServeOptions, Served, Site, run_serve_cosigned, run_serve_shelf,
-    threads_of,
+    BoundListener, CosignedLog, Host, ServeOptions, Served, Site, run_serve_cosigned,
+    run_serve_shelf, threads_of,
 };
 
 // So many shelves of the folder at this path, for threads that read there.
@@ -203,11 +203,11 @@ pub(crate) fn serve_at<
     if !is_key_name(options.origin.as_str()) {
         return Err(RunFault::BadOrigin);
     }
-    let entrance = match Entrance::open(rt, alloc, &options.server, errors) {
-        Ok(entrance) => entrance,
+    let bound = match BoundListener::bind(rt, alloc, &options.server, errors) {
+        Ok(bound) => bound,
         Err(fault) => return Err(fault),
     };
-    let site = Site::new(&entrance, input);
+    let site = Site::new(&bound, input);
     match check_log(rt, alloc, dir, options.is_new) {
         Ok(()) => {}
         Err(fault) => return Err(fault),

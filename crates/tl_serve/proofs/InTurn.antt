@@ -6,12 +6,12 @@ use Rattle.tl_command.specs.declared.fault.RunFault.{RunFault}
 use Rattle.tl_sequencer.specs.Log.{Log}
 use Rattle.tl_serve.specs.Inner.Rounds.{AllInTurn, InTurn}
 
--- so many more
+-- this many more
 abbrev pub plus : ℕ → Result ℕ RunFault → Result ℕ RunFault
 plus n (Ok m) = Ok (n + m)
 plus n (Err fault) = Err fault
 
--- so much was counted, and whatever comes of the calls that are left comes, with it, of all
+-- this much was counted, and whatever comes of the calls that are left comes, with it, of all
 pub record IsOnward {A X : Type 0} (Does : X → Log A → Log A → Result ℕ RunFault → Type 0) (all left : List X) (a b : Log A) (count : ℕ) : Type 0 where
   pub sum : ℕ
   pub counted : count ≡ min sum (2 ^ 64 - 1)

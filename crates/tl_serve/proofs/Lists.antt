@@ -6,7 +6,7 @@ use Rattle.std.specs.declared.vec.Vec.{Vec}
 use Rattle.std.proofs.lemmas.List.{map_push}
 use Rattle.tl_lines.specs.Dealt.{Deals}
 
--- the list that is taken is the first of those that are left, and so many others are left
+-- the list that is taken is the first of those that are left, and this many others are left
 pub first_list : {X : Type 0} (old new : List X) (old_len new_len : ℕ) (taken : Option X) (default first : X)
     → MatchOption taken ((old_len ≡ 0) × (new_len ≡ 0)) (λ x. (old ≡ x ∷ new) × (new_len + 1 ≡ old_len)) → 0 < old_len → first ≡ unwrap_or taken default
     → (old ≡ first ∷ new) × (new_len + 1 ≡ old_len)

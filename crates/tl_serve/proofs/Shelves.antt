@@ -62,29 +62,29 @@ serving_taken key q c i j due due' is drained none = record {
 
 -- ---- once what waits was appended
 
--- an intake before and after, with the sizes of the ledger, of which what waits is let go where the size grew
-pub record LetsGo {A : Type 0} (i j : Intake A) (c : Course) (before after : ℕ) : Type 0 where
+-- an intake before and after, with the sizes of the ledger, of which what waits is drained if the size grew
+pub record DrainsIfGrown {A : Type 0} (i j : Intake A) (c : Course) (before after : ℕ) : Type 0 where
   pub parts : i.log.taken ≡ i.drained ++ i.waiting
   pub old : before ≡ c.was.edge.size
   pub new : after ≡ c.is.edge.size
   pub gone : before ≢ after → (j.drained ≡ i.log.taken) × (j.waiting ≡ [])
   pub left : before ≡ after → j ≡ i
 
--- all that waited was put: it is let go, or nothing waited
-let_all : {A : Type 0} (i j : Intake A) (c : Course) (before after : ℕ) → LetsGo i j c before after
+-- all that waited was put: it is drained, or nothing waited
+drain_all : {A : Type 0} (i j : Intake A) (c : Course) (before after : ℕ) → DrainsIfGrown i j c before after
     → c.is.edge.size ≡ c.was.edge.size + length i.waiting → (w : List Bytes) → i.waiting ≡ w → (j.drained ≡ i.log.taken) × (j.waiting ≡ [])
-let_all i j c before after goes grown [] none =
+drain_all i j c before after goes grown [] none =
     let same = goes.left (omega (arith, goes.old, goes.new, grown, ap length none)) in
     (ap (λ (x : Intake _). x.drained) same ∙ sym (goes.parts ∙ ap (λ (es : List Bytes). i.drained ++ es) none ∙ append-nil i.drained), ap (λ (x : Intake _). x.waiting) same ∙ none)
-let_all i j c before after goes grown (x ∷ xs) some =
+drain_all i j c before after goes grown (x ∷ xs) some =
     goes.gone (λ same. absurd (omega (arith, same, goes.old, goes.new, grown, ap length some)))
 
-pub all_gone : {A : Type 0} (i j : Intake A) (c : Course) (before after : ℕ) → LetsGo i j c before after
+pub all_gone : {A : Type 0} (i j : Intake A) (c : Course) (before after : ℕ) → DrainsIfGrown i j c before after
     → c.is.edge.size ≡ c.was.edge.size + length i.waiting → (j.drained ≡ i.log.taken) × (j.waiting ≡ [])
-all_gone i j c before after goes grown = let_all i j c before after goes grown i.waiting refl
+all_gone i j c before after goes grown = drain_all i j c before after goes grown i.waiting refl
 
--- what was put is let go
-put_gone : {A : Type 0} (i j : Intake A) (put : List Bytes) (c : Course) (before after : ℕ) → LetsGo i j c before after
+-- what was put is drained
+put_gone : {A : Type 0} (i j : Intake A) (put : List Bytes) (c : Course) (before after : ℕ) → DrainsIfGrown i j c before after
     → IsPutOrNot i.waiting put c → i.drained ++ put ≡ j.drained
 put_gone i j put c before after goes (inl none) =
     ap (λ (es : List Bytes). i.drained ++ es) none.0 ∙ append-nil i.drained
@@ -93,7 +93,7 @@ put_gone i j put c before after goes (inr all) =
     ap (λ (es : List Bytes). i.drained ++ es) all.0 ∙ sym ((all_gone i j c before after goes all.1).0 ∙ goes.parts)
 
 module _ {A : Type 0} (key : LogKey) (q : Quorum) (a m b : Kept) (saw mid sees : List Kept) (was now is : Ledger) (i j : Intake A) (due : Bool) (before after : ℕ)
-    (serving : IsServing key q (along a m saw mid was now) i due) (goes : LetsGo i j (along m b mid sees now is) before after) where
+    (serving : IsServing key q (along a m saw mid was now) i due) (goes : DrainsIfGrown i j (along m b mid sees now is) before after) where
   -- all of it was shown
   pub serving_shown : is.edge.size ≡ now.edge.size + length i.waiting → ShowsBatch key q i.waiting (along m b mid sees now is)
       → IsServing key q (along a b saw sees was is) j false

@@ -17,13 +17,13 @@ AreKeysOf [] (key ∷ keys) = ⊥
 AreKeysOf (text ∷ texts) [] = ⊥
 AreKeysOf (text ∷ texts) (key ∷ keys) = IsVerifierText cosignature_kind text key × AreKeysOf texts keys
 
--- so many witnesses, where each that the options name is named by the text of a witness's key
+-- as many witnesses as the options ask for, if each that they name is named by the text of a witness's key
 pub record IsQuorumOf (options : ServeOptions) (q : Quorum) : Type 0 where
   pub keys : List PublicKey
   pub spelled : AreKeysOf (map (λ w. string_bytes w.key) (vec_items options.witnesses)) keys
   pub need : q.need ≡ options.need
 
--- how a log is served whose checkpoints are shown once so many of these witnesses have cosigned them; or nothing was
+-- how a log is served whose checkpoints are shown once enough of these witnesses have cosigned them; or nothing was
 -- written
 abbrev pub ServesCosigned : ServeOptions → Found → Visit → Result (Unit {0}) RunFault → Type 0
 ServesCosigned options found v outcome =

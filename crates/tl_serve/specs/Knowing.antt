@@ -1,5 +1,5 @@
--- Which logs a witness knows, and what is refused before anything is read (C2SP signed-note, "Format", for the names of
--- keys).
+-- Which logs a witness knows, and what is refused before anything is read (C2SP signed-note, "Format", for the names
+-- of keys).
 use Rattle.std.specs.Prelude.{◌≡◌, ⊤, Result, Ok, Err, string_bytes}
 use Rattle.tl_note.specs.Key.{IsKeyName}
 use Rattle.tl_device.specs.Device.{Passage, IsUnread}
@@ -17,7 +17,7 @@ abbrev pub by_witness : Result (Unit {0}) RunFault → Result (Unit {0}) Witness
 by_witness (Ok done) = Ok done
 by_witness (Err fault) = Err (Run fault)
 
--- why a state isn't read, as other commands tell it: the line that is to blame is told
+-- why a state can't be read, as other commands report it: with the line that is to blame
 abbrev pub by_state : StateFault → RunFault
 by_state state.Read = Read
 by_state (state.Malformed line) = Chain line
@@ -25,7 +25,7 @@ by_state (state.Broken line) = Chain line
 by_state state.TooLarge = TooLarge
 by_state state.OutOfMemory = OutOfMemory
 
--- one log is served where its name is a key's; those that a file names are looked at once it was read
+-- one log is served if its name is a key's; those that a file names are checked once it was read
 abbrev pub MayServe : KnownLogs → Type 0
 MayServe (One origin key) = IsKeyName (string_bytes origin)
 MayServe (Listed path) = ⊤

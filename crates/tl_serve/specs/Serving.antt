@@ -25,7 +25,7 @@ pub record IsLeft (v : Visit) : Type 0 where
   pub kept : v.after ≡ v.before
   pub trace : v.sees ≡ v.saw
 
--- how a log of this name is served, under the key that is given, where so many of these witnesses must cosign
+-- how a log of this name is served, under the key that is given, with this quorum of witnesses that must cosign
 abbrev pub Serves : GivenKey → Bytes → Quorum → Found → Visit → Result (Unit {0}) RunFault → Type 0
 Serves key name q found v (Ok done) = (own : LogKey) × IsLogKey key name own × ServesWhole own q found v
 Serves key name q found v (Err fault) = IsLeft v ⊎ ((own : LogKey) × IsLogKey key name own × ServesPart own q found v)

@@ -1,11 +1,11 @@
 //! The threads that answer connections.
 
-use crate::door::Door;
-use crate::guest::House;
-use crate::guests::Guests;
+use crate::connection::Context;
+use crate::connections::Connections;
 use crate::host::Host;
-use crate::news::News;
-use crate::pages::Pages;
+use crate::listener::Listener;
+use crate::resources::Resources;
+use crate::signals::Signals;
 use mio::Poll;
 use std::alloc::Global;
 use std::net::{Net, TcpListener, TcpStream};
@@ -17,58 +17,60 @@ use tl_command::RunFault;
 /// A thread that answers.
 pub(crate) type AnsweringThread = JoinHandle<()>;
 
-// Answers connections from these pages, until no more are to be taken.
-fn answer_from<H: Clock + Net + Wait, P: Pages>(
+// Answers connections from these resources, until no more are to be accepted.
+fn answer_from<H: Clock + Net + Wait, P: Resources>(
     rt: &H,
     alloc: Global,
-    door: &Door,
+    listener: &Listener,
     poll: Poll,
-    pages: P,
-    news: &News,
+    resources: P,
+    signals: &Signals,
 ) -> Result<(), RunFault> {
-    let mut guests = Guests::new(House { rt, alloc, news }, door, poll)?;
-    guests.answer_all(pages)
+    let mut connections = Connections::new(Context { rt, alloc, signals }, listener, poll)?;
+    connections.answer_all(resources)
 }
 
-/// Answers connections from these pages, until no more are to be taken. Tells a fault, and when it ends.
-pub(crate) fn answer<H: Clock + Net + Wait, P: Pages>(
+/// Answers connections from these resources, until no more are to be accepted. Reports a fault, and
+/// that it ends.
+pub(crate) fn answer<H: Clock + Net + Wait, P: Resources>(
     rt: &H,
     alloc: Global,
-    door: &Door,
+    listener: &Listener,
     poll: Poll,
-    pages: P,
-    news: &News,
+    resources: P,
+    signals: &Signals,
 ) {
-    if let Err(fault) = answer_from(rt, alloc, door, poll, pages, news) {
-        news.tell_fault(rt, fault);
+    if let Err(fault) = answer_from(rt, alloc, listener, poll, resources, signals) {
+        signals.report_fault(rt, fault);
     }
-    news.end_answering();
+    signals.end_answering();
 }
 
-/// Starts a thread that answers from each of these pages, as long as threads can be started. `OutOfMemory`: none can.
+/// Starts a thread that answers from each of these resources, as long as threads can be started.
+/// `OutOfMemory`: none can.
 pub(crate) fn start_answering<
     's,
     E,
     H: Host + Net<Listener = TcpListener, Stream = TcpStream>,
-    P: Pages + Send + 's,
+    P: Resources + Send + 's,
 >(
     scope: &'s Scope<'s, E>,
     rt: &'s H,
     alloc: Global,
-    door: &'s Door,
-    pages: Vec<P>,
-    news: &'s News,
+    listener: &'s Listener,
+    resources: Vec<P>,
+    signals: &'s Signals,
 ) -> Result<Vec<AnsweringThread>, RunFault> {
     let mut threads = Vec::new(alloc);
-    for own in pages {
-        let Some(poll) = door.next_poll(rt) else {
+    for own in resources {
+        let Some(poll) = listener.next_poll(rt) else {
             break;
         };
-        news.begin_answering();
-        match scope.spawn(move || answer(rt, alloc, door, poll, own, news)) {
+        signals.begin_answering();
+        match scope.spawn(move || answer(rt, alloc, listener, poll, own, signals)) {
             Ok(thread) => threads.push(thread)?,
             Err(_) => {
-                news.end_answering();
+                signals.end_answering();
                 break;
             }
         }
@@ -79,9 +81,13 @@ pub(crate) fn start_answering<
     Ok(threads)
 }
 
-/// Closes the door, and waits for the threads that answer.
-pub(crate) fn end_answering<H: Threads>(rt: &H, door: &Door, threads: Vec<AnsweringThread>) {
-    door.close();
+/// Closes the listener, and waits for the threads that answer.
+pub(crate) fn end_answering<H: Threads>(
+    rt: &H,
+    listener: &Listener,
+    threads: Vec<AnsweringThread>,
+) {
+    listener.close();
     for thread in threads {
         thread.join(rt);
     }

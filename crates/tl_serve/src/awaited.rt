@@ -7,16 +7,16 @@ use std::net::Net;
 use std::os::fd::RawFd;
 use tl_command::RunFault;
 
-// Under which tokens the input and the waker are watched.
+// The tokens under which the input and the waker are watched.
 const INPUT: Token = Token(0);
 
 const WAKE: Token = Token(1);
 
-// How many events are told at once.
+// The most events that one poll returns.
 const MOST_EVENTS: usize = 4;
 
-/// An input that can be waited for: that of a descriptor, as long as the system can watch it. Others are never waited
-/// for, since a read of a file answers at once.
+/// An input that can be waited for: that of a descriptor, if the system can watch it. Any other
+/// input is never waited for, since a read of a file returns at once.
 #[derive(Drop)]
 pub(crate) struct Awaited {
     poll: Poll,
@@ -26,7 +26,8 @@ pub(crate) struct Awaited {
 }
 
 impl Awaited {
-    /// The input of this descriptor, and what wakes the thread that waits for it. `Read`: the system refuses to watch.
+    /// Returns the input of this descriptor, and what wakes the thread that waits for it. `Read`:
+    /// the system refuses to watch.
     pub(crate) fn new<H: Net>(
         rt: &H,
         alloc: Global,
@@ -49,8 +50,9 @@ impl Awaited {
         Ok((awaited, waker))
     }
 
-    /// Waits until the input has something to read or has ended, or the thread is woken: whether it is the former.
-    /// After the end it waits until another writer comes. `Read`: the system refuses to watch.
+    /// Waits until the input can be read or has ended, or the thread is woken, and reports whether
+    /// it is the input. After the end it waits until another writer comes. `Read`: the system
+    /// refuses to watch.
     pub(crate) fn wait(&mut self) -> Result<bool, RunFault> {
         let Some(descriptor) = self.descriptor else {
             return Ok(true);
@@ -76,7 +78,7 @@ impl Awaited {
         self.has_ended
     }
 
-    /// Takes note that a read came to the end, or that it didn't. Whether another writer may come.
+    /// Records whether a read came to the end, and reports whether another writer may come.
     pub(crate) fn note(&mut self, has_ended: bool) -> bool {
         self.has_ended = has_ended;
         self.descriptor.is_some()
@@ -93,7 +95,7 @@ fn tells_input(events: &Events) -> bool {
     false
 }
 
-// The descriptor, if the system watches it.
+// Returns the descriptor, if the system watches it.
 fn watched(poll: &Poll, descriptor: Option<RawFd>) -> Option<RawFd> {
     let descriptor = descriptor?;
     let mut source = SourceFd(&descriptor);

@@ -1,4 +1,4 @@
-//! The key that a witness cosigns by, which many boxes may share.
+//! The key that a witness cosigns with, which many signers may share.
 
 ghost use Rattle.std.specs.Arc.{arc_value};
 ghost use Rattle.std.specs.Prelude.{◌≡◌, IfOk};
@@ -8,7 +8,7 @@ use std::sync::Arc;
 use tl_key::{Cosignature, DemoKey, SignerKey};
 use tl_note::{SignFault, Signer};
 
-/// The key that the witness cosigns by.
+/// The key that the witness cosigns with.
 #[derive(Drop)]
 pub(crate) enum Own {
     /// A demonstration key.
@@ -17,14 +17,14 @@ pub(crate) enum Own {
     Private(SignerKey<Cosignature, Global>),
 }
 
-/// Who signs by a key that others share.
+/// A signer by a shared key.
 #[derive(Drop)]
 pub(crate) struct SharedSigner {
     key: Arc<Own>,
 }
 
 impl SharedSigner {
-    /// Who signs by this key.
+    /// Returns a signer by this key.
     pub(crate) fn new(key: &Arc<Own>) -> Result<SharedSigner, AllocError>
         ensures { IfOk result (λ signer. arc_value signer.key ≡ arc_value key.now) }
     {

@@ -1,4 +1,4 @@
-//! The threads that ask witnesses to cosign what a log proposes, and who waits for them.
+//! The threads that ask witnesses to cosign what a log proposes, and what waits for them.
 
 use crate::options::AskedWitness;
 use crate::shared_writer::SharedWriter;
@@ -17,8 +17,8 @@ use tl_device::Counted;
 use tl_note::Verifier;
 use tl_source::Url;
 
-/// Who proposes what the threads of a ballot ask witnesses about, waits until so many have cosigned it, and tells why
-/// others haven't.
+/// Proposes notes for the threads of a ballot to ask about, waits until enough witnesses have
+/// cosigned, and reports why others haven't.
 #[derive(Drop)]
 pub(crate) struct Proposer<'b, 'w, H, L> {
     pub(crate) rt: &'b H,
@@ -29,7 +29,7 @@ pub(crate) struct Proposer<'b, 'w, H, L> {
     pub(crate) out: Counted<SharedWriter<'b, 'w, H, L>>,
 }
 
-// The name that the text of a verifier key begins with.
+// Returns the name that the text of a verifier key begins with.
 fn name_of(text: &str) -> &str {
     match text.find('+') {
         Some(end) => &text[..end],
@@ -38,7 +38,7 @@ fn name_of(text: &str) -> &str {
 }
 
 impl<H: Wait, L: Write> Proposer<'_, '_, H, L> {
-    // Tells why a witness gave no cosignature.
+    // Reports why a witness gave no cosignature.
     fn tell(&mut self, place: usize, why: Unasked) -> Result<(), RunFault> {
         let Some(witness) = self.asked.get(place) else {
             return Ok(());
@@ -76,7 +76,7 @@ pub(crate) struct Asking<'b, H> {
     pub(crate) limit: Duration,
 }
 
-/// Who asks the witness at a place in each round of a ballot, with proofs from what the shelf has. It may wait.
+/// Asks the witness at a place in each round of a ballot, with proofs from the shelf. It may wait.
 pub(crate) trait AsksInRounds<P> {
     fn ask(&self, place: usize, shelf: P);
 }
@@ -103,8 +103,8 @@ impl<H: Wait + Clock + Net<Stream = TcpStream>, P: Shelf + Drop> AsksInRounds<P>
     }
 }
 
-/// Starts a thread for each witness, which reads what proofs need of a shelf of its own. `OutOfMemory`: one can't be
-/// started.
+/// Starts a thread for each witness, which reads what its proofs need from a shelf of its own.
+/// `OutOfMemory`: a thread can't be started.
 pub(crate) fn start_asking<'s, E, A: AsksInRounds<P> + Sync + 's, P: Send + Drop + 's>(
     scope: &'s Scope<'s, E>,
     alloc: Global,

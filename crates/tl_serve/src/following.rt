@@ -1,10 +1,10 @@
-//! How the lines of an input come into a log as they come.
+//! How the lines of an input enter a log as they come.
 
 ghost use Rattle.std.specs.Prelude.{◌≡◌, IfOk, IfSome};
 
 use crate::awaited::Awaited;
 use crate::lanes::{EndOf, LaneThread, Sending, Sent, send_one};
-use crate::news::News;
+use crate::signals::Signals;
 use std::alloc::Global;
 use std::io::Read;
 use std::snapshot::Snapshot;
@@ -16,7 +16,7 @@ use tl_device::Counted;
 use tl_lines::{Lines, NextLine};
 use tl_sequencer::Submitter;
 
-/// What came of reading on.
+/// What reading on gave.
 #[derive(Clone, Copy)]
 pub(crate) enum ReadOn {
     /// Something came.
@@ -27,12 +27,13 @@ pub(crate) enum ReadOn {
     Over,
 }
 
-/// Lines that come one after the other.
+/// A source of lines, one after another.
 pub(crate) trait Source: Send + Drop {
-    /// The next line of what was read; none where all of it was cut.
+    /// Returns the next line of what was read, or none if all of it was cut.
     fn cut(&mut self) -> Result<Option<NextLine<Global>>, RunFault>;
 
-    /// Waits until there is something to read. Whether there is: the thread may have been woken.
+    /// Waits until there is something to read, and reports whether there is: the thread may have
+    /// been woken.
     fn wait(&mut self) -> Result<bool, RunFault>;
 
     /// Reads on.
@@ -41,10 +42,10 @@ pub(crate) trait Source: Send + Drop {
     /// Whether the last read came to the end of the input.
     fn has_ended(&self) -> bool;
 
-    /// The last line, once the input has ended, if no newline ended it.
+    /// Returns the last line, once the input has ended, if no newline ended it.
     fn last(&mut self) -> Option<NextLine<Global>>;
 
-    /// How many lines came so far.
+    /// Returns how many lines came so far.
     fn count(&self) -> u64;
 }
 
@@ -95,31 +96,31 @@ impl<R: Read + Send> Source for Followed<'_, R> {
     }
 }
 
-// Sends a line, or tells that it is too long. Whether to go on.
+// Sends a line, or reports that it is too long. Returns whether to go on.
 fn send_line<H: Wait>(
     rt: &H,
     submitter: &mut Submitter<Global, Global>,
     line: NextLine<Global>,
-    news: &News,
+    signals: &Signals,
 ) -> Result<bool, RunFault>
     ensures { (submitter.new.ring ≡ submitter.old.ring)
         × (submitter.new.lane ≡ submitter.old.lane) }
 {
     match line {
-        NextLine::Entry(entry) => Ok(send_one(submitter, entry, news)),
+        NextLine::Entry(entry) => Ok(send_one(submitter, entry, signals)),
         NextLine::TooLong(number) => {
-            news.tell_too_long(rt, number)?;
+            signals.notify_too_long(rt, number)?;
             Ok(true)
         }
     }
 }
 
-// Sends the lines that were read. Whether to go on.
+// Sends the lines that were read. Returns whether to go on.
 fn send_read<H: Wait, S: Source>(
     rt: &H,
     source: &mut S,
     submitter: &mut Submitter<Global, Global>,
-    news: &News,
+    signals: &Signals,
 ) -> Result<bool, RunFault>
     ensures { (submitter.new.ring ≡ submitter.old.ring)
         × (submitter.new.lane ≡ submitter.old.lane) }
@@ -127,7 +128,7 @@ fn send_read<H: Wait, S: Source>(
     for _ in 0..u64::MAX {
         match source.cut() {
             Ok(Some(line)) => {
-                if !send_line(rt, submitter, line, news)? {
+                if !send_line(rt, submitter, line, signals)? {
                     return Ok(false);
                 }
             }
@@ -138,91 +139,91 @@ fn send_read<H: Wait, S: Source>(
     Ok(false)
 }
 
-// Sends the last line, where the input has ended, and tells that. Whether to go on.
+// Sends the last line after the input has ended, and reports the end. Returns whether to go on.
 fn send_last<H: Wait, S: Source>(
     rt: &H,
     source: &mut S,
     submitter: &mut Submitter<Global, Global>,
-    news: &News,
+    signals: &Signals,
     may_go_on: bool,
 ) -> Result<bool, RunFault>
     ensures { (submitter.new.ring ≡ submitter.old.ring)
         × (submitter.new.lane ≡ submitter.old.lane) }
 {
     if let Some(line) = source.last() {
-        if !send_line(rt, submitter, line, news)? {
+        if !send_line(rt, submitter, line, signals)? {
             return Ok(false);
         }
     }
-    news.tell_end();
+    signals.notify_end();
     Ok(may_go_on)
 }
 
-// Waits for what comes and reads it. What came of that; none where nothing is taken any more, or all connections are
-// answered and the input has ended.
-fn read_next<S: Source>(source: &mut S, news: &News) -> Result<Option<ReadOn>, RunFault> {
+// Waits for input and reads it. Returns what that gave, or none if nothing more is taken, or if all
+// connections are answered and the input has ended.
+fn read_next<S: Source>(source: &mut S, signals: &Signals) -> Result<Option<ReadOn>, RunFault> {
     for _ in 0..u64::MAX {
-        if news.is_stopped() || (news.is_over() && source.has_ended()) {
+        if signals.is_stopped() || (signals.is_over() && source.has_ended()) {
             break;
         }
-        if source.wait()? && !news.is_stopped() {
+        if source.wait()? && !signals.is_stopped() {
             return Ok(Some(source.read_on()?));
         }
     }
     Ok(None)
 }
 
-// Sends each line as it comes, until nothing more can come or nothing is taken any more.
+// Sends each line as it comes, until no more can come or no more are taken.
 fn send_lines<H: Wait, S: Source>(
     rt: &H,
     source: &mut S,
     submitter: &mut Submitter<Global, Global>,
-    news: &News,
+    signals: &Signals,
 ) -> Result<(), RunFault>
     ensures { (submitter.new.ring ≡ submitter.old.ring)
         × (submitter.new.lane ≡ submitter.old.lane) }
 {
     let mut goes_on = true;
     for _ in 0..u64::MAX {
-        if !goes_on || !send_read(rt, source, submitter, news)? {
+        if !goes_on || !send_read(rt, source, submitter, signals)? {
             break;
         }
-        goes_on = match read_next(source, news)? {
+        goes_on = match read_next(source, signals)? {
             Some(ReadOn::More) => true,
-            Some(ReadOn::Ended) => send_last(rt, source, submitter, news, true)?,
-            Some(ReadOn::Over) => send_last(rt, source, submitter, news, false)?,
+            Some(ReadOn::Ended) => send_last(rt, source, submitter, signals, true)?,
+            Some(ReadOn::Over) => send_last(rt, source, submitter, signals, false)?,
             None => false,
         };
     }
     Ok(())
 }
 
-// Sends each line as it comes, and closes the submitter at the end. A fault is told.
-fn follow<H: Wait, S: Source>(rt: &H, source: S, lane: Sending, news: &News) -> Sent
+// Sends each line as it comes, and closes the submitter at the end. Reports a fault.
+fn follow<H: Wait, S: Source>(rt: &H, source: S, lane: Sending, signals: &Signals) -> Sent
     ensures { IfSome result.ended
         (λ e. (e.ring ≡ lane.submitter.ring) × (e.lane ≡ lane.submitter.lane)) }
 {
     let Sending { submitter, .. } = lane;
     let mut submitter = submitter;
     let mut source = source;
-    if let Err(fault) = send_lines(rt, &mut source, &mut submitter, news) {
-        news.tell_fault(rt, fault);
+    if let Err(fault) = send_lines(rt, &mut source, &mut submitter, signals) {
+        signals.report_fault(rt, fault);
     }
     let sent = Sent {
         count: source.count(),
         ended: submitter.close(),
     };
-    news.end_sending();
+    signals.end_sending();
     sent
 }
 
-/// Starts the thread that sends the lines, which promises that its end is of the lane's submitter.
+/// Starts the thread that sends the lines. It promises that its end is of the lane's submitter.
 pub(crate) fn start_following<'s, E, H: Wait + Sync, S: Source + 's>(
     scope: &'s Scope<'s, E>,
     rt: &'s H,
     source: S,
     lane: Sending,
-    news: &'s News,
+    signals: &'s Signals,
 ) -> Result<LaneThread, RunFault>
     ensures { IfOk result (λ h. h.promise.0.value ≡ lane.submitter) }
 {
@@ -230,12 +231,12 @@ pub(crate) fn start_following<'s, E, H: Wait + Sync, S: Source + 's>(
     let job = move || -> Sent
         ensures { IfSome result.ended
             (λ e. (e.ring ≡ lane.submitter.ring) × (e.lane ≡ lane.submitter.lane)) }
-    { follow(rt, source, lane, news) };
-    news.begin_sending();
+    { follow(rt, source, lane, signals) };
+    signals.begin_sending();
     match scope.spawn_with(promise, job) {
         Ok(handle) => Ok(handle),
         Err(_) => {
-            news.end_sending();
+            signals.end_sending();
             Err(RunFault::OutOfMemory)
         }
     }

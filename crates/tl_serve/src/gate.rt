@@ -6,7 +6,7 @@ pub trait Gate: Send + Sync + Drop {
     fn pass(&self, lane: u32);
 }
 
-/// The gate that stands open.
+/// A gate that is always open.
 #[derive(Clone, Copy)]
 pub(crate) struct OpenGate;
 

@@ -6,7 +6,7 @@ use std::sync::Wait;
 use std::thread::Threads;
 use std::time::Clock;
 
-/// The system, as a server needs it beside its sockets: threads, a clock, files and random bytes.
+/// The system, as a server needs it apart from sockets: threads, a clock, files and random bytes.
 pub trait Host: Threads + Wait + Clock + Files + RandomSource + Copy + Send + Sync + Drop {}
 
 impl<H> Host for H

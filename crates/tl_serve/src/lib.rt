@@ -1,39 +1,37 @@
-//! The commands of the program `tlog` that run a log or a witness: `serve`, in memory or on a shelf, and `witness` over
-//! HTTP, each answered by several threads.
+//! The commands of the program `tlog` that run a log or a witness over HTTP: `serve`, in memory or on a shelf, and
+//! `witness`. Several threads answer.
 //!
 //! ```
 //! let options = ServeOptions { origin, key: LogKey::Secret(secret), .. };
-//! run_serve(&rt, alloc, &options, None, &mut reader, &mut log)?; // tells `listening 127.0.0.1:8080`, and ends in time
+//! // reports `listening 127.0.0.1:8080`, and ends in time
+//! run_serve(&rt, alloc, &options, None, &mut reader, &mut log)?;
 //! ```
 #![tactic(auto)]
 
 mod answering;
 mod asked;
 mod awaited;
+mod bound_listener;
+mod connection;
+mod connections;
 mod cosigner;
 mod cosigners;
-mod desk;
-mod door;
-mod entrance;
 mod following;
 mod gate;
-mod guest;
-mod guests;
-mod handed;
 mod host;
 mod lanes;
 mod listed;
+mod listener;
 mod live_log;
 mod memory_log;
-mod news;
-mod news_feed;
 mod opening;
 mod options;
-mod pages;
 mod queue;
+mod queued;
 mod receipt;
 mod remembered;
 mod request;
+mod resources;
 mod running;
 mod saver;
 mod serve;
@@ -43,15 +41,18 @@ mod server;
 mod serving;
 mod shared_writer;
 mod shelf_log;
+mod signal_feed;
+mod signals;
+mod submission;
+mod submit_queue;
 mod telling;
-mod turn;
 mod watch;
 mod witness;
 mod witness_fault;
 mod witness_server;
 mod written;
 
-pub use entrance::{Entrance, Site};
+pub use bound_listener::{BoundListener, Site};
 pub use gate::Gate;
 pub use host::Host;
 pub use options::{

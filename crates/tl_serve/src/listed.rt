@@ -1,7 +1,7 @@
 //! A witness of the logs that a file names.
 
+use crate::bound_listener::BoundListener;
 use crate::cosigner::{Own, SharedSigner};
-use crate::entrance::Entrance;
 use crate::host::Host;
 use crate::options::WitnessOptions;
 use crate::witness::{own_key, read_chains, serve_trusted};
@@ -18,7 +18,7 @@ use tl_note::{Signer, Verifier};
 use tl_proof::Link;
 use tl_witness::Trust;
 
-// The logs that the file at this path names.
+// Reads the logs that the file at this path names.
 fn known_logs<H: Files>(
     rt: &H,
     alloc: Global,
@@ -36,7 +36,7 @@ fn known_logs<H: Files>(
     }
 }
 
-// Serves a witness of these logs that cosigns by this key, and has cosigned these chains.
+// Serves a witness of these logs that cosigns with this key and has cosigned these chains.
 fn serve_listed<
     H: Host + Net<Listener = TcpListener, Stream = TcpStream>,
     O: Write + Send,
@@ -45,7 +45,7 @@ fn serve_listed<
     rt: &H,
     alloc: Global,
     options: &WitnessOptions,
-    entrance: Option<&Entrance>,
+    bound: Option<&BoundListener>,
     logs: Vec<KnownLog<Global>>,
     key: Arc<Own>,
     chains: Vec<(String, Vec<Link<Global>>)>,
@@ -67,7 +67,7 @@ fn serve_listed<
             cosigner,
         })?;
     }
-    serve_trusted(rt, alloc, options, entrance, trusts, chains, writer, log)
+    serve_trusted(rt, alloc, options, bound, trusts, chains, writer, log)
 }
 
 /// Serves a witness of the logs that the file at this path names.
@@ -80,7 +80,7 @@ pub(crate) fn run_listed<
     rt: &H,
     alloc: Global,
     options: &WitnessOptions,
-    entrance: Option<&Entrance>,
+    bound: Option<&BoundListener>,
     path: &str,
     reader: &mut Counted<R>,
     writer: &mut Counted<O>,
@@ -88,10 +88,10 @@ pub(crate) fn run_listed<
 ) -> Result<(), WitnessFault> {
     let logs = known_logs(rt, alloc, path)?;
     let key = Arc::new(alloc, own_key(rt, alloc, options)?)?;
-    // (what it cosigned for others is left out)
+    // What it cosigned for other logs is left out.
     let chains = match read_chains(alloc, Some(logs.as_slice()), reader) {
         Ok(chains) => chains,
         Err(fault) => return Err(WitnessFault::Run(fault)),
     };
-    after_run(serve_listed(rt, alloc, options, entrance, logs, key, chains, writer, log))
+    after_run(serve_listed(rt, alloc, options, bound, logs, key, chains, writer, log))
 }

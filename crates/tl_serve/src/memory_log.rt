@@ -1,4 +1,4 @@
-//! A log that runs in memory.
+//! A running log in memory.
 
 ghost use Rattle.std.specs.Prelude.{◌≡◌, IfOk, IfSome};
 ghost use Rattle.tl_publisher.specs.Operating.{IsOperating, LeavesAllElse};
@@ -15,7 +15,7 @@ use tl_sequencer::Ended;
 
 /// A log that is published on a board.
 pub(crate) trait BoardLog: RunningLog + Drop {
-    /// Takes in at most so many entries of a lane: how many it took.
+    /// Takes in at most this many entries of a lane, and returns how many it took.
     fn take_lane(&mut self, lane: u32, most: u64) -> Result<u64, RunFault>
         requires { IsOperating (Self.state self.old) }
         ensures operating { IsOperating (Self.state self.new) }
@@ -23,7 +23,7 @@ pub(crate) trait BoardLog: RunningLog + Drop {
         ensures taken { TakesIn lane most (Self.state self.old).log (Self.state self.new).log
             result };
 
-    /// Takes in all that is left of the lane of an end: how many entries.
+    /// Takes in all that is left of the lane of an end, and returns how many entries.
     fn take_rest(&mut self, ended: Ended<Global, Global>) -> Result<u64, RunFault>
         requires operating { IsOperating (Self.state self.old) }
         requires end { IsEndOf ended (Self.state self.old).log }
@@ -32,7 +32,7 @@ pub(crate) trait BoardLog: RunningLog + Drop {
         ensures taken { TakesRest ended (Self.state self.old).log (Self.state self.new).log
             result };
 
-    /// Publishes what was taken in; none where it is published already.
+    /// Publishes what was taken in. Returns none if it is published already.
     fn publish_new(&mut self) -> Result<Option<Published>, RunFault>
         requires { IsOperating (Self.state self.old) }
         ensures operating { IsOperating (Self.state self.new) }
@@ -41,7 +41,7 @@ pub(crate) trait BoardLog: RunningLog + Drop {
         ensures book { IfOk result
             (λ shown. IfSome shown (λ p. p.book ≡ (Self.state self.old).past.book)) };
 
-    /// Closes the log: how many entries it has.
+    /// Closes the log, and returns how many entries it has.
     fn finish(self) -> Result<u64, RunFault>
         requires { IsOperating (Self.state self) }
         ensures { Finishes (Self.state self).log result };
@@ -80,7 +80,7 @@ impl<H: Host> BoardLog for Operator<H> {
     }
 }
 
-/// A log on a board, and the reader of the board by which it is told what is published.
+/// A log on a board, and the reader of the board that says what is published.
 #[derive(Drop)]
 pub(crate) struct MemoryLog<O> {
     pub(crate) operator: O,

@@ -16,7 +16,7 @@ use tl_note::Verifier;
 use tl_sequencer::Submitter;
 use tl_tile::{BundleFault, write_bundle};
 
-/// The bundles of entries, none of which is too long.
+/// Returns the bundles of these entries, none of which is too long.
 pub(crate) fn bundles_of(alloc: Global, entries: &[Vec<u8>]) -> Result<Vec<Vec<u8>>, RunFault> {
     let mut bundles = Vec::new(alloc);
     for bundle in entries.chunks(256) {
@@ -29,7 +29,7 @@ pub(crate) fn bundles_of(alloc: Global, entries: &[Vec<u8>]) -> Result<Vec<Vec<u
     Ok(bundles)
 }
 
-/// A note with its last newline, which a shell takes off.
+/// Returns a note with its last newline, which a shell strips.
 pub(crate) fn with_newline(alloc: Global, note: &str) -> Result<String, AllocError> {
     let mut whole = String::from_str(alloc, note)?;
     if !note.ends_with('\n') {
@@ -38,7 +38,7 @@ pub(crate) fn with_newline(alloc: Global, note: &str) -> Result<String, AllocErr
     Ok(whole)
 }
 
-/// How many entries the checkpoint of a note has.
+/// Returns how many entries the checkpoint of a note has.
 pub(crate) fn size_of(
     alloc: Global,
     note: &str,
@@ -50,8 +50,9 @@ pub(crate) fn size_of(
     }
 }
 
-/// What a log is opened with: the entries that it goes on from, those that it is to be sent, lines that come later, how
-/// many lanes there are, the last for entries that are posted where these are taken, and the room of each.
+/// What a log is opened with: the entries that it goes on from, those that it is to be sent, the
+/// lines that come later, the number of lanes, and the room of each. If posted entries are taken,
+/// the last lane is for them.
 #[derive(Drop)]
 pub(crate) struct Plan {
     pub(crate) base: Vec<Vec<u8>>,
@@ -61,8 +62,8 @@ pub(crate) struct Plan {
     pub(crate) room: usize,
 }
 
-// The entries that a log of this size goes on from, and those that it is to be sent. Where lines are followed the
-// latter come later. `Malformed`: there are fewer.
+// Returns the entries that a log of this size goes on from, and those that it is to be sent. If
+// lines are followed, the latter come later. `Malformed`: there are fewer.
 fn read_log<R: Read>(
     alloc: Global,
     options: &ServeOptions,
@@ -87,7 +88,7 @@ fn read_log<R: Read>(
     Ok((base, entries))
 }
 
-/// Reads what a log of this size is opened with. Where lines are followed there is one lane.
+/// Reads what a log of this size is opened with. If lines are followed, they have one lane.
 pub(crate) fn read_plan<R: Read>(
     alloc: Global,
     options: &ServeOptions,
@@ -122,7 +123,7 @@ pub(crate) fn read_plan<R: Read>(
     })
 }
 
-// What each submitter is to send: the entries are dealt out in turn.
+// Returns what each submitter is to send: the entries are dealt out in turn.
 fn lanes_of(
     alloc: Global,
     submitters: Vec<Submitter<Global, Global>>,
@@ -142,9 +143,9 @@ fn lanes_of(
     Ok(lanes)
 }
 
-/// What each submitter is to send: the entries are dealt out in turn. The last submitter is for entries that are
-/// posted, if these are taken: it is dealt none.
-pub(crate) fn lanes_and_desk(
+/// Returns what each submitter is to send: the entries are dealt out in turn. If posted entries are
+/// taken, the last submitter is for them, and is dealt none.
+pub(crate) fn lanes_with_posts(
     alloc: Global,
     submitters: Vec<Submitter<Global, Global>>,
     entries: Vec<Vec<u8>>,

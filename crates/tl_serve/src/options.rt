@@ -2,7 +2,7 @@
 
 use tl_command::LogKey;
 
-/// By which key a witness knows a log.
+/// The key by which a witness knows a log.
 #[derive(Drop)]
 pub enum LogVerifierKey {
     /// The demonstration key of the log's name and this secret.
@@ -11,16 +11,16 @@ pub enum LogVerifierKey {
     Text(String),
 }
 
-/// Which logs a witness knows.
+/// The logs that a witness knows.
 #[derive(Drop)]
 pub enum KnownLogs {
-    /// One log, of this name, a key's name, and known by this key.
+    /// One log: its name, which is a key's name, and the key it is known by.
     One(String, LogVerifierKey),
-    /// Those that the lines of the file at this path name (`tl_logs::read_logs`).
+    /// The logs that the lines of the file at this path name (`tl_logs::read_logs`).
     Listed(String),
 }
 
-/// By which key a witness cosigns.
+/// The key that a witness cosigns with.
 #[derive(Drop)]
 pub enum WitnessSignerKey {
     /// The demonstration key of this name and this secret.
@@ -29,20 +29,22 @@ pub enum WitnessSignerKey {
     File(String),
 }
 
-/// What is common to the servers.
+/// The options that all servers have.
 #[derive(Drop)]
 pub struct ListenOptions {
-    /// The address to listen at, an IP address or a host's name, and a port.
+    /// The address to listen at: an IP address or a host's name, and a port.
     pub listen: String,
-    /// After how many connections the server ends; without it, when it is told to stop.
+    /// How many connections are answered before the server ends. Without it, the server runs until
+    /// it is stopped.
     pub connections: Option<u64>,
-    /// How many threads answer, 1 to 63; without it, as many as the machine has.
+    /// How many threads answer, 1 to 63. Without it, as many as the machine has.
     pub threads: Option<u64>,
-    /// How many seconds one connection may take in all, at least 1; half of them for the head of its request.
+    /// How many seconds one connection may take in all, at least 1. Half of them are for the head
+    /// of its request.
     pub timeout: u64,
-    /// How many connections are held at most at once, at least 1.
+    /// How many connections are held at once at most, at least 1.
     pub clients: u64,
-    /// Whether only the address is told.
+    /// Whether only the address is reported.
     pub quiet: bool,
 }
 
@@ -66,27 +68,29 @@ pub struct ServeOptions {
     pub server: ListenOptions,
     /// How many lanes the entries come in by, 1 to 64.
     pub lanes: u64,
-    /// For how many entries a lane has room, 1 to 65,536.
+    /// How many entries a lane has room for, 1 to 65,536.
     pub capacity: u64,
     /// How many entries of a lane are taken at once, 1 to 65,536.
     pub batch: u64,
     /// The signed note of the checkpoint that the log goes on from, in memory.
     pub note: Option<String>,
-    /// The folder of the log; without it, the log is in memory.
+    /// The folder of the log. Without it, the log is in memory.
     pub dir: Option<String>,
-    /// Whether a log begins in the folder, so that none may be there; else there is one, and it is gone on from.
+    /// Whether a log begins in the folder, and none may be there. If not, the log that is there
+    /// goes on.
     pub is_new: bool,
     /// Whether lines are published as they come.
     pub follow: bool,
-    /// Whether entries are taken that are posted, and answered with their places.
+    /// Whether posted entries are taken, and answered with their indexes.
     pub takes_posts: bool,
-    /// For how many milliseconds at most entries that came wait for more before they are published.
+    /// How many milliseconds entries wait at most for more before they are published.
     pub interval: u64,
-    /// How many entries are remembered with their places; one that is posted again isn't added again.
+    /// How many entries are remembered with their indexes. One that is posted again isn't added
+    /// again.
     pub remember: u64,
     /// Whether a log in a folder may go on from a checkpoint of fewer entries than were published.
     pub allows_older: bool,
-    /// Whether partial tiles and bundles stay in a folder that full ones have replaced.
+    /// Whether a folder keeps partial tiles and bundles that full ones have replaced.
     pub keeps_partials: bool,
     /// The witnesses that are asked to cosign each checkpoint of a log in a folder.
     pub witnesses: Vec<AskedWitness>,
@@ -101,13 +105,13 @@ pub struct WitnessOptions {
     pub logs: KnownLogs,
     /// The witness's key.
     pub key: WitnessSignerKey,
-    /// The seconds since 1970 that it cosigns with; without it, those of the machine's clock.
+    /// The seconds since 1970 to cosign with. Without them, those of the machine's clock.
     pub time: Option<u64>,
-    /// The file of what it cosigned; without it, standard input and output.
+    /// The file of what it cosigned. Without it, standard input and output.
     pub state: Option<String>,
-    /// Whether that file is made, so that none may be there; else there is one, and it is gone on from.
+    /// Whether that file is made, and none may be there. If not, the file that is there goes on.
     pub is_new: bool,
-    /// Whether that file is compacted first: of each origin its last link alone is kept.
+    /// Whether that file is compacted first, so that it keeps only the last link of each origin.
     pub compacts: bool,
     /// Where and how long it listens.
     pub server: ListenOptions,

@@ -1,4 +1,4 @@
-//! Lines that wait to be written: one write takes all that came while another was under way.
+//! A queue of lines to be written: one write takes all that came while another was in progress.
 
 ghost use Rattle.std.specs.Prelude.{◌≡◌, ◌==◌, ◌++◌, ◌∷◌, [], None, OnSome, IsErr, IsTrue, false, position, true};
 ghost use Rattle.tl_serve.specs.Inner.Queueing.{Steps};
@@ -11,17 +11,17 @@ use std::sync::{Condvar, Mutex, Wait};
 use tl_device::Counted;
 use tl_witness::SaveFault;
 
-// How many threads save at once, at most; each waits for its line.
+// The most threads that save at once. Each waits for its line.
 const MOST_THREADS: usize = 64;
 
-// A link that was written, for who has this ticket.
+// A link that was written, for the holder of this ticket.
 #[derive(Drop)]
 struct Kept {
     ticket: u64,
     link: WrittenLink,
 }
 
-// Lines that wait together. The first has this ticket, and each other the next.
+// Lines that wait together. The first has this ticket, and each later one the next.
 #[derive(Drop)]
 struct Batch {
     first: u64,
@@ -37,19 +37,19 @@ struct Waiting {
     has_failed: bool,
 }
 
-// What is to be done by who waits for a line.
+// What the thread that waits for a line is to do.
 #[derive(Drop)]
 enum Step {
-    // Nothing: it was written.
+    // Nothing: its line was written.
     Fetch(WrittenLink),
-    // Nothing: a write failed, and nothing is known of the end of what was written.
+    // Nothing: a write failed, and how much was written is unknown.
     Fail,
-    // To write these, its own among them.
+    // Write these lines, its own among them.
     Write(Batch),
 }
 
 impl Waiting {
-    // Puts a line behind the others: its ticket, or none where it can't be taken.
+    // Appends a line and returns its ticket, or none if the line can't be taken.
     fn put(&mut self, line: LinkLine) -> Option<u64>
         ensures put { OnSome result
             (self.new.batch.lines.items ≡ self.old.batch.lines.items ++ line ∷ []) }
@@ -64,21 +64,21 @@ impl Waiting {
         Some(self.batch.first.wrapping_add(others as u64))
     }
 
-    // The place among those that were written of the one with this ticket.
+    // Returns the place of the written link with this ticket.
     fn place_of(&self, ticket: u64) -> Option<usize>
         ensures { result ≡ position (λ kept. kept.ticket == ticket) self.now.kept.items }
     {
         self.kept.iter().position(|kept| kept.ticket == ticket)
     }
 
-    // Whether who has this ticket must wait for who writes.
+    // Whether the holder of this ticket must wait for the thread that writes.
     fn is_early(&self, ticket: u64) -> bool
         ensures { IsTrue result → (self.now.is_writing ≡ true) × (self.now.has_failed ≡ false) }
     {
         self.is_writing && !self.has_failed && self.place_of(ticket).is_none()
     }
 
-    // Takes what who has this ticket is to do, once it need not wait.
+    // Returns what the holder of this ticket is to do, once it need not wait.
     fn step(&mut self, alloc: Global, ticket: u64) -> Step
         ensures { Steps ticket self.old self.new result }
     {
@@ -97,7 +97,7 @@ impl Waiting {
         Step::Write(mem::replace(&mut self.batch, next))
     }
 
-    // Takes in what came of a write of lines, the first of which has this ticket.
+    // Records what came of a write of lines, the first of which has this ticket.
     fn finish(&mut self, first: u64, outcome: Result<Vec<WrittenLink>, SaveFault>)
         ensures ends { self.new.is_writing ≡ false }
         ensures failed { IsErr outcome → self.new.has_failed ≡ true }
@@ -118,7 +118,7 @@ impl Waiting {
     }
 }
 
-/// Lines that wait for a writer that several threads share.
+/// A queue of lines for a writer that several threads share.
 #[derive(Drop)]
 pub struct LineQueue<'w, O> {
     alloc: Global,
@@ -128,7 +128,7 @@ pub struct LineQueue<'w, O> {
 }
 
 impl<'w, O: Write> LineQueue<'w, O> {
-    /// None waits. It fails only where a growth was refused.
+    /// Returns an empty queue. Fails only if allocation fails.
     pub fn new(alloc: Global, out: &'w mut Counted<O>) -> Result<LineQueue<'w, O>, AllocError> {
         let mut kept = Vec::new(alloc);
         kept.reserve(MOST_THREADS)?;
@@ -149,13 +149,13 @@ impl<'w, O: Write> LineQueue<'w, O> {
         })
     }
 
-    // Puts a line behind the others: its ticket, or none where it can't be taken.
+    // Appends a line and returns its ticket, or none if the line can't be taken.
     fn put<R: Wait>(&self, rt: &R, line: LinkLine) -> Option<u64> {
         let mut waiting = self.waiting.lock(rt);
         waiting.put(line)
     }
 
-    // What who has this ticket is to do, once who writes has done so.
+    // Returns what the holder of this ticket is to do, once the thread that writes is done.
     fn step<R: Wait>(&self, rt: &R, ticket: u64) -> Step {
         let waiting = self.waiting.lock(rt);
         let mut waiting = self
@@ -164,7 +164,7 @@ impl<'w, O: Write> LineQueue<'w, O> {
         waiting.step(self.alloc, ticket)
     }
 
-    // Writes lines, and tells the others what came of it.
+    // Writes lines, and passes on what came of it to the others.
     fn write<R: Wait>(&self, rt: &R, batch: Batch) {
         let Batch { first, lines } = batch;
         let outcome = {
@@ -178,8 +178,8 @@ impl<'w, O: Write> LineQueue<'w, O> {
         self.changed.notify_all();
     }
 
-    /// Has a line written: the link comes back once its line was, by this thread or by another. Once a write failed,
-    /// each that comes fails, and so do all that wait. It may wait.
+    /// Has a line written, and returns its link once it was, by this thread or by another. After a
+    /// write failed, every call fails, and so do those that wait. It may wait.
     pub(crate) fn save<R: Wait>(&self, rt: &R, line: LinkLine) -> Result<WrittenLink, SaveFault> {
         let Some(ticket) = self.put(rt, line) else {
             return Err(SaveFault);

@@ -1,4 +1,4 @@
-//! What an entry that was handed in is known by.
+//! The receipt of a submitted entry.
 
 ghost use Rattle.std.specs.Prelude.{◌<◌, IfSome};
 
@@ -8,7 +8,7 @@ use tl_hash::Hash;
 // The index of an entry that has none yet.
 const NOWHERE: u64 = u64::MAX;
 
-/// What an entry that was handed in is known by.
+/// The receipt of a submitted entry, by which its index is known once it has one.
 #[derive(Drop)]
 pub(crate) struct Receipt {
     // The entry's leaf hash.
@@ -17,7 +17,8 @@ pub(crate) struct Receipt {
 }
 
 impl Receipt {
-    /// That of an entry with this leaf hash, whose index is known already or isn't yet.
+    /// Returns the receipt of an entry with this leaf hash, and with its index if that is known
+    /// already.
     pub(crate) fn new(leaf: Hash, index: Option<u64>) -> Receipt {
         Receipt {
             leaf,
@@ -25,12 +26,12 @@ impl Receipt {
         }
     }
 
-    /// Notes the index of the entry in the log.
+    /// Records the index of the entry in the log.
     pub(crate) fn set(&self, index: u64) {
         self.index.store(index, Ordering::SeqCst);
     }
 
-    /// The index of the entry in the log, if it is known and below this size.
+    /// Returns the index of the entry in the log, if it is known and below this size.
     pub(crate) fn index_below(&self, size: u64) -> Option<u64>
         ensures { IfSome result (λ index. index < size) }
     {

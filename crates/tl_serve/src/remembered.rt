@@ -13,8 +13,9 @@ use tl_archive::Shelf;
 use tl_hash::{Hash, Sha256Tree, leaf_hash};
 use tl_tile::{Resource, bundle_width, read_bundle};
 
-/// The receipts of the entries that were posted last, or stood last in the log at the start, by their leaf hashes (RFC
-/// 6962, section 2.1): that of the first place of each.
+/// The receipts of the entries that were posted last, or stood last in the log at the start, by
+/// their leaf hashes (RFC 6962, section 2.1). If an entry stands more than once, its first index
+/// counts.
 #[derive(Drop)]
 pub(crate) struct Remembered {
     alloc: Global,
@@ -22,7 +23,8 @@ pub(crate) struct Remembered {
     receipts: Option<LruCache<[u8; 32], Arc<Receipt>, RandomState>>,
 }
 
-// A list of at most so many: none where the machine has no random bytes, or memory was refused.
+// Returns a list of at most this many, or none if the machine has no random bytes or allocation
+// fails.
 fn receipts_of<H: RandomSource>(
     rt: &H,
     alloc: Global,
@@ -36,7 +38,7 @@ fn receipts_of<H: RandomSource>(
 }
 
 impl Remembered {
-    /// None yet, of so many at most.
+    /// Returns an empty list for at most this many entries.
     pub(crate) fn new<H: RandomSource>(rt: &H, alloc: Global, most: u64) -> Remembered {
         Remembered {
             alloc,
@@ -45,13 +47,13 @@ impl Remembered {
         }
     }
 
-    /// What an entry with this leaf hash is known by, if it is remembered.
+    /// Returns the receipt of an entry with this leaf hash, if it is remembered.
     pub(crate) fn find(&mut self, leaf: &Hash) -> Option<Arc<Receipt>> {
         let receipt = self.receipts.as_mut()?.get(leaf.as_bytes())?;
         Arc::try_clone(receipt).ok()
     }
 
-    /// Remembers an entry by this receipt, unless one is remembered, or memory is refused.
+    /// Remembers an entry by this receipt, unless one is remembered already or allocation fails.
     pub(crate) fn put(&mut self, receipt: Arc<Receipt>) {
         let leaf = receipt.leaf;
         if self.find(&leaf).is_some() {
@@ -62,7 +64,7 @@ impl Remembered {
         }
     }
 
-    // Remembers an entry of the log, which has this index.
+    // Remembers the entry of the log that has this index.
     fn put_placed(&mut self, entry: &[u8], index: u64) {
         let receipt = Receipt::new(leaf_hash(Sha256Tree, entry), Some(index));
         if let Ok(receipt) = Arc::new(self.alloc, receipt) {

@@ -11,15 +11,15 @@ const MOST_HEAD: usize = 8192;
 #[derive(Drop)]
 pub(crate) struct Request {
     bytes: Vec<u8>,
-    // How many bytes are taken at most before that.
+    // The most bytes that are taken before that.
     most: usize,
-    // From how many on it is tried.
+    // The number of bytes from which on it is tried.
     enough: usize,
     has_ended: bool,
 }
 
 impl Request {
-    /// Nothing came yet.
+    /// Returns a request of which nothing came yet.
     pub(crate) fn new(alloc: Global) -> Request {
         Request {
             bytes: Vec::new(alloc),
@@ -29,17 +29,17 @@ impl Request {
         }
     }
 
-    /// How many bytes more are taken at most, at least one.
+    /// Returns how many more bytes are taken at most, at least one.
     pub(crate) fn room(&self) -> usize {
         self.most.saturating_sub(self.bytes.len()).max(1)
     }
 
-    /// Takes bytes that came.
+    /// Appends bytes that came.
     pub(crate) fn feed(&mut self, bytes: &[u8]) -> Result<(), AllocError> {
         self.bytes.extend_from_slice(bytes)
     }
 
-    /// Nothing more comes.
+    /// Records that nothing more comes.
     pub(crate) fn end(&mut self) {
         self.has_ended = true;
     }
@@ -54,13 +54,14 @@ impl Request {
         self.bytes.len() >= self.enough
     }
 
-    /// Whether its head isn't there yet, as far as that is known.
+    /// Whether its head isn't complete yet, as far as that is known.
     pub(crate) fn is_begun(&self) -> bool {
         self.most <= MOST_HEAD
     }
 
-    /// Takes note that an answer was tried in vain, when so many bytes more were asked for: those up to the most of a
-    /// head, of which each may end it, or else those of a body, all of which are needed.
+    /// Records that an answer was tried in vain, and that it asked for this many more bytes. Up to
+    /// the most bytes of a head, each of them may end it. Beyond, they are of a body, and all are
+    /// needed.
     pub(crate) fn want(&mut self, asked: usize) {
         let len = self.bytes.len();
         self.most = len.saturating_add(asked);
@@ -71,7 +72,7 @@ impl Request {
         };
     }
 
-    /// What came, for one try of an answer.
+    /// Returns a reader of what came, for one try of an answer.
     pub(crate) fn reader(&self) -> Partial<'_> {
         Partial {
             bytes: self.bytes.as_slice(),
@@ -81,8 +82,8 @@ impl Request {
     }
 }
 
-/// A reader over what came of a request. Where more may come, a read beyond it fails: what is answered without such a
-/// read is answered whatever follows.
+/// A reader of what came of a request. If more may come, a read beyond it fails. So an answer that
+/// needs no such read holds whatever follows.
 #[derive(Drop)]
 pub(crate) struct Partial<'b> {
     bytes: &'b [u8],
@@ -91,7 +92,7 @@ pub(crate) struct Partial<'b> {
 }
 
 impl Partial<'_> {
-    /// How many bytes the read asked for that failed.
+    /// Returns how many bytes the failed read asked for.
     pub(crate) fn asked(&self) -> usize {
         self.asked
     }

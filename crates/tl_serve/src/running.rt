@@ -1,9 +1,9 @@
-//! A log that runs, by the thread that carries its steps out.
+//! A running log, driven by the thread that carries out its steps.
 
 ghost use Rattle.std.specs.Prelude.{◌≡◌, ◌-◌, All};
 ghost use Rattle.tl_sequencer.specs.Log.{IsEndOf};
 ghost use Rattle.tl_device.specs.Device.{passage};
-ghost use Rattle.tl_heart.specs.Order.{Begins};
+ghost use Rattle.tl_loop.specs.Order.{Begins};
 ghost use Rattle.tl_serve.specs.Inner.Carrying.{Carries, CountsEnds, CountsRound, Drives, ShowsTaken, TellsHead, TellsInputEnded, count_event, owed_first, taken_after, told_event};
 ghost use Rattle.tl_serve.specs.Inner.Rounds.{TakesEnds, TakesRound};
 ghost use Rattle.tl_serve.specs.Inner.Running.{StaysRunning};
@@ -15,58 +15,60 @@ use std::alloc::Global;
 use std::io::Write;
 use tl_command::RunFault;
 use tl_device::Counted;
-use tl_heart::{Event, Heart, Step};
+use tl_loop::{Event, PublishLoop, Step};
 use tl_sequencer::Ended;
 
-/// Where the thread that carries steps out learns what happens beside it.
+/// What informs the thread that carries out the steps of what happens beside it.
 pub(crate) trait Feed {
     ghost use Rattle.tl_command.specs.declared.fault.RunFault.{RunFault};
-    ghost use Rattle.tl_heart.specs.declared.heart.Event.{Event};
+    ghost use Rattle.tl_loop.specs.declared.publish_loop.Event.{Event};
 
     /// What waiting makes of it, by what happened.
     ghost gives: { Self → Self → Event RunFault → Type 0 };
 
-    /// Waits until something happens. Where entries were taken in that aren't published, `published` are: then it
-    /// waits no longer than until a publication is due.
+    /// Waits until something happens. If entries were taken in that aren't published, `published`
+    /// is how many are: then it waits only until a publication is due.
     fn wait(&mut self, published: Option<u64>) -> Event<RunFault>
         ensures { gives self.old self.new result };
 
-    /// Takes note that so many entries of a lane were taken in, the first of them at this index of the log.
+    /// Records that this many entries of a lane were taken in, the first of them at this index of
+    /// the log.
     fn note_taken(&self, lane: u32, index: u64, count: u64);
 
-    /// Takes note that so many entries of the log are published.
+    /// Records that this many entries of the log are published.
     fn note_published(&self, size: u64);
 }
 
-/// How much is taken and published at a time, and what is told.
+/// How much is taken and published at a time, and what is reported.
 #[derive(Clone, Copy)]
 pub(crate) struct Rounds {
-    /// How many entries the log has that were there before.
+    /// How many entries the log had before.
     pub(crate) before: u64,
     /// How many entries make a publication due at once.
     pub(crate) batch: u64,
-    /// Whether fewer wait for more until a publication is due.
+    /// Whether a smaller batch waits until a publication is due.
     pub(crate) gathers: bool,
     /// How many lanes there are.
     pub(crate) lanes: u32,
-    /// How many entries of a lane are taken at most in a round; without it, as many as make a publication due.
+    /// How many entries of a lane a round takes at most. Without it, as many as make a publication
+    /// due.
     pub(crate) most: Option<u64>,
-    /// What is told before size and root; without it, nothing is told.
+    /// The word that is reported before size and root. Without it, nothing is reported.
     pub(crate) word: Option<&'static str>,
 }
 
-/// A log that runs, and how many entries were taken and published.
+/// A running log, and how many entries were taken and published.
 #[derive(Drop)]
 pub(crate) struct Running<O> {
     pub(crate) log: O,
     pub(crate) rounds: Rounds,
     pub(crate) taken: u64,
     pub(crate) published: u64,
-    /// Whether it was due at first: entries that were there before aren't shown.
+    /// Whether a publication was due at first, since entries that were there before aren't shown.
     pub(crate) was_due: bool,
 }
 
-// What came of a call that counts nothing.
+// Returns the event of a call that counts nothing.
 fn done(outcome: Result<(), RunFault>) -> Event<RunFault>
     ensures { result ≡ told_event outcome }
 {
@@ -76,7 +78,8 @@ fn done(outcome: Result<(), RunFault>) -> Event<RunFault>
     }
 }
 
-// Takes from each lane in turn: how many entries in all. The first of them has this index in the log.
+// Takes from each lane in turn, and returns how many entries in all. The first of them has this
+// index in the log.
 fn take_round<O: LiveLog, F: Feed>(
     log: &mut O,
     feed: &F,
@@ -101,7 +104,7 @@ fn take_round<O: LiveLog, F: Feed>(
     Ok(count)
 }
 
-// Takes in what is left of the lanes of these ends: how many entries.
+// Takes in what is left of the lanes of these ends, and returns how many entries.
 fn take_ends<O: LiveLog>(log: &mut O, ends: Vec<Ended<Global, Global>>) -> Result<u64, RunFault>
     requires holds { O.holds log.old }
     requires ends { All (λ e. IsEndOf e (O.log log.old)) ends.items }
@@ -119,7 +122,7 @@ fn take_ends<O: LiveLog>(log: &mut O, ends: Vec<Ended<Global, Global>>) -> Resul
 }
 
 impl<O: LiveLog> Running<O> {
-    /// A log of which nothing is taken yet, which may be due.
+    /// Returns a log of which nothing is taken yet, and which may be due.
     pub(crate) fn new(log: O, rounds: Rounds, is_due: bool) -> Running<O>
         ensures log { result.log ≡ log }
         ensures rounds { result.rounds ≡ rounds }
@@ -135,16 +138,17 @@ impl<O: LiveLog> Running<O> {
         }
     }
 
-    /// What a log that is served does first: it publishes what is due, or else tells what was published.
-    pub(crate) fn begin(&self) -> Heart<RunFault>
+    /// Returns the loop that a served log begins with: it publishes what is due, or else reports
+    /// what was published.
+    pub(crate) fn begin(&self) -> PublishLoop<RunFault>
         ensures begins { Begins result (owed_first self.now.was_due) }
         ensures batch { (result.batch ≡ self.now.rounds.batch) × (result.left ≡ self.now.rounds.batch) }
     {
         let Rounds { batch, gathers, .. } = self.rounds;
         if self.was_due {
-            Heart::owing(batch, gathers)
+            PublishLoop::owing(batch, gathers)
         } else {
-            Heart::serving(batch, gathers)
+            PublishLoop::serving(batch, gathers)
         }
     }
 
@@ -165,7 +169,7 @@ impl<O: LiveLog> Running<O> {
         }
     }
 
-    // Takes in what waits, of each lane at most as many as a round takes.
+    // Takes in what waits, of each lane at most as many entries as a round takes.
     fn take<F: Feed>(&mut self, left: u64, feed: &F) -> Event<RunFault>
         requires { O.holds self.old.log }
         ensures kept { StaysRunning O.holds O.log O.begun self.old.log self.new.log }
@@ -205,7 +209,7 @@ impl<O: LiveLog> Running<O> {
         }
     }
 
-    // Tells size and root of what was published.
+    // Reports size and root of what was published.
     fn tell_head<L: Write>(&mut self, alloc: Global, out: &mut Counted<L>) -> Event<RunFault>
         requires { O.holds self.old.log }
         ensures kept { StaysRunning O.holds O.log O.begun self.old.log self.new.log }
@@ -221,7 +225,7 @@ impl<O: LiveLog> Running<O> {
         }
     }
 
-    // Tells that the input has ended.
+    // Reports that the input has ended.
     fn tell_input_ended<L: Write>(&self, out: &mut Counted<L>) -> Event<RunFault>
         ensures { TellsInputEnded self.now.rounds.word (passage L.contents out.old out.new) result }
     {
@@ -231,32 +235,33 @@ impl<O: LiveLog> Running<O> {
         }
     }
 
-    // How many entries that were taken are published, where others wait for more.
-    fn pending(&self, heart: Heart<RunFault>) -> Option<u64> {
-        if heart.has_new {
+    // Returns how many of the taken entries are published, if others wait for more.
+    fn pending(&self, publish_loop: PublishLoop<RunFault>) -> Option<u64> {
+        if publish_loop.has_new {
             Some(self.published)
         } else {
             None
         }
     }
 
-    // Carries a step out: what came of it. None where the step is another thread's, too.
+    // Carries out a step and returns what came of it, or none if the step isn't this thread's
+    // alone.
     fn carry_out<F: Feed, L: Write>(
         &mut self,
         alloc: Global,
-        heart: Heart<RunFault>,
+        publish_loop: PublishLoop<RunFault>,
         feed: &mut F,
         out: &mut Counted<L>,
     ) -> Option<Event<RunFault>>
         requires { O.holds self.old.log }
         ensures kept { StaysRunning O.holds O.log O.begun self.old.log self.new.log }
-        ensures carried { Carries O.log O.shows O.heads F.gives L.contents heart
+        ensures carried { Carries O.log O.shows O.heads F.gives L.contents publish_loop
             (record { running = self.old; feed = feed.old; out = out.old })
             (record { running = self.new; feed = feed.new; out = out.new }) result }
     {
-        match heart.step() {
-            Step::Wait => Some(feed.wait(self.pending(heart))),
-            Step::Take => Some(self.take(heart.left, feed)),
+        match publish_loop.step() {
+            Step::Wait => Some(feed.wait(self.pending(publish_loop))),
+            Step::Take => Some(self.take(publish_loop.left, feed)),
             Step::Publish => Some(self.publish(feed)),
             Step::TellHead => Some(self.tell_head(alloc, out)),
             Step::TellTooLong(line) => Some(done(tell_too_long(alloc, out, line))),
@@ -265,31 +270,31 @@ impl<O: LiveLog> Running<O> {
         }
     }
 
-    /// Carries steps out, until one of them is another thread's, too: that is the next.
+    /// Carries out steps, up to one that isn't this thread's alone. That step is the next.
     pub(crate) fn drive<F: Feed, L: Write>(
         &mut self,
         alloc: Global,
-        heart: Heart<RunFault>,
+        publish_loop: PublishLoop<RunFault>,
         feed: &mut F,
         out: &mut Counted<L>,
-    ) -> Heart<RunFault>
+    ) -> PublishLoop<RunFault>
         requires { O.holds self.old.log }
         ensures kept { StaysRunning O.holds O.log O.begun self.old.log self.new.log }
-        ensures driven { Drives O.log O.shows O.heads F.gives L.contents heart
+        ensures driven { Drives O.log O.shows O.heads F.gives L.contents publish_loop
             (record { running = self.old; feed = feed.old; out = out.old })
             (record { running = self.new; feed = feed.new; out = out.new }) result }
     {
-        let mut heart = heart;
+        let mut publish_loop = publish_loop;
         for _ in 0..u64::MAX {
-            let Some(event) = self.carry_out(alloc, heart, feed, out) else {
+            let Some(event) = self.carry_out(alloc, publish_loop, feed, out) else {
                 break;
             };
-            heart = heart.after(event);
+            publish_loop = publish_loop.after(event);
         }
-        heart
+        publish_loop
     }
 
-    /// Tells how many of so many lines were not published, if any weren't.
+    /// Reports how many of these lines were not published, if any weren't.
     pub(crate) fn tell_rest<L: Write>(
         &self,
         alloc: Global,

@@ -23,7 +23,7 @@ pub struct LineSaver<'a, 'w, H: Wait, O> {
 }
 
 impl<'a, 'w, H: Wait, O: Write> LineSaver<'a, 'w, H, O> {
-    /// A saver that has nothing, and hands lines to `queue`.
+    /// Returns a saver that has nothing yet, and gives its lines to `queue`.
     pub fn new(rt: &'a H, alloc: Global, queue: &'a LineQueue<'w, O>) -> LineSaver<'a, 'w, H, O> {
         LineSaver {
             rt,
@@ -39,7 +39,7 @@ impl<'a, 'w, H: Wait, O: Write> LineSaver<'a, 'w, H, O> {
         self.failures > 0
     }
 
-    // Has the line of a link written. What comes back is looked at.
+    // Has the line of a link written, and checks what comes back.
     fn print<A: Allocator>(&self, origin: &str, link: &Link<A>) -> Result<WrittenLink, SaveFault>
         requires { IsChainLine (record { origin = origin.now; step = step_of link.now }) }
         ensures { IfOk result (λ written. written ≡ (origin.now, step_of link.now)) }
@@ -53,7 +53,7 @@ impl<'a, 'w, H: Wait, O: Write> LineSaver<'a, 'w, H, O> {
         }
     }
 
-    // One failure more.
+    // Counts one more failure.
     fn fail(&mut self) -> Result<(), SaveFault>
         ensures failed { IsErr result }
         ensures counted { (self.old.failures < self.new.failures)

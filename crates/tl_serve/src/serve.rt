@@ -6,14 +6,14 @@ ghost use Rattle.tl_publisher.specs.Operating.{IsOperating};
 ghost use Rattle.tl_sequencer.specs.Log.{IsSenderOf, rings_of};
 ghost use Rattle.tl_command.specs.Origins.{RefusesOrigin};
 
-use crate::entrance::{Entrance, Site};
+use crate::bound_listener::{BoundListener, Site};
 use crate::gate::{Gate, OpenGate};
 use crate::host::Host;
 use crate::live_log::MOST_ENTRIES;
 use crate::memory_log::{BoardLog, MemoryLog};
-use crate::opening::{bundles_of, lanes_and_desk, read_plan, size_of, with_newline};
+use crate::opening::{bundles_of, lanes_with_posts, read_plan, size_of, with_newline};
 use crate::options::ServeOptions;
-use crate::pages::OnBoard;
+use crate::resources::OnBoard;
 use crate::running::Running;
 use crate::server::{Base, Server};
 use crate::serving::{Ran, check_closing, tell_end};
@@ -31,10 +31,12 @@ use tl_note::{Signer, Verifier, is_key_name};
 use tl_publisher::{BoardReader, Operator, OperatorFault, Published, ResumeFault};
 use tl_sequencer::Submitter;
 
-// The most threads that answer: one less than the board may have readers, since one more tells what is published.
+// The most threads that answer: one less than the board may have readers, since one more reports
+// what is published.
 const MOST_THREADS: u32 = 63;
 
-/// How many threads answer: as many as are asked for, or else as the machine has, and at most 63.
+/// Returns how many threads answer: as many as are asked for, or else as the machine has, and at
+/// most 63.
 pub fn threads_of<H: Threads>(rt: &H, asked: Option<u64>) -> u32
     ensures { result ≤ 63 }
 {
@@ -62,7 +64,7 @@ fn learn(readers: Vec<BoardReader<Global>>, published: &Published) -> Vec<BoardR
     readers
 }
 
-// Publishes the log as it was opened, which each reader then sees.
+// Publishes the log as it was opened, so that each reader sees it.
 fn publish_first<O: BoardLog>(
     log: &mut O,
     readers: Vec<BoardReader<Global>>,
@@ -79,21 +81,21 @@ fn publish_first<O: BoardLog>(
     }
 }
 
-// What each thread answers from.
-fn pages_of(
+// Returns what each thread answers from.
+fn resources_of(
     alloc: Global,
     readers: Vec<BoardReader<Global>>,
     is_open: bool,
 ) -> Result<Vec<OnBoard>, AllocError> {
-    let mut pages = Vec::new(alloc);
+    let mut resources = Vec::new(alloc);
     for board in readers {
-        pages.push(OnBoard { board, is_open })?;
+        resources.push(OnBoard { board, is_open })?;
     }
-    Ok(pages)
+    Ok(resources)
 }
 
 impl<H: Host + Net<Listener = TcpListener, Stream = TcpStream>, G: Gate> Server<'_, H, G> {
-    // Serves a log in memory that was opened with so many entries, and is to be sent these.
+    // Serves a log in memory that was opened with this many entries, and is to be sent these.
     fn serve_opened<O: BoardLog, R: Read + Send, L: Write>(
         &self,
         opened: O,
@@ -111,30 +113,30 @@ impl<H: Host + Net<Listener = TcpListener, Stream = TcpStream>, G: Gate> Server<
     {
         let mut operator = opened;
         let takes_posts = self.options.takes_posts;
-        let lanes = lanes_and_desk(self.alloc, submitters, entries, takes_posts)?;
-        let entrance = Entrance::open(self.rt, self.alloc, &self.options.server, out)?;
+        let lanes = lanes_with_posts(self.alloc, submitters, entries, takes_posts)?;
+        let bound = BoundListener::bind(self.rt, self.alloc, &self.options.server, out)?;
         let mut readers = publish_first(&mut operator, readers)?;
         let Some(board) = readers.pop() else {
             return Err(RunFault::Operator);
         };
-        let pages = pages_of(self.alloc, readers, takes_posts)?;
+        let resources = resources_of(self.alloc, readers, takes_posts)?;
         let log = MemoryLog { operator, board };
         let base = Base {
             size: before,
             is_due: false,
             remembered: self.remembered(),
         };
-        let site = Site::new(&entrance, self.input);
-        let Ran { running, heart } = self.serve_published(
-            &site, log, base, lanes, pages, lines, reader, out,
+        let site = Site::new(&bound, self.input);
+        let Ran { running, last } = self.serve_published(
+            &site, log, base, lanes, resources, lines, reader, out,
         );
-        let heart = check_closing(heart)?;
+        let last = check_closing(last)?;
         let Running { log, .. } = running;
         let size = log.operator.finish()?;
-        tell_end(self.alloc, heart, size, self.options.server.quiet, out)
+        tell_end(self.alloc, last, size, self.options.server.quiet, out)
     }
 
-    // Serves a log in memory that begins with no entry.
+    // Serves a log in memory that begins empty.
     fn serve_new<R: Read + Send, L: Write>(
         &self,
         signers: Vec<Box<dyn Signer>>,
@@ -194,7 +196,7 @@ impl<H: Host + Net<Listener = TcpListener, Stream = TcpStream>, G: Gate> Server<
     }
 }
 
-/// `run_serve` where the thread of each lane passes this gate before it sends.
+/// Serves as `run_serve` does, but the thread of each lane passes this gate before it sends.
 pub fn serve_gated<
     H: Host + Net<Listener = TcpListener, Stream = TcpStream>,
     R: Read + Send,
@@ -237,10 +239,11 @@ pub fn serve_gated<
     }
 }
 
-/// Serves the log of the lines of the input over HTTP: tells the address, then answers connections, each by
-/// `tl_server::serve_log`, and ends after as many as the options say, or once something fails. A thread for each lane
-/// sends its entries, and this one takes and publishes them. In the end the log is closed. `input` is the descriptor of
-/// the reader, where lines are followed and there is one to wait for. It may wait.
+/// Serves the log of the lines of the input over HTTP. It reports the address, then answers
+/// connections, each by `tl_server::serve_log`, and ends after as many as the options say, or once
+/// something fails. A thread for each lane sends its entries, and this one takes and publishes
+/// them. In the end the log is closed. `input` is the descriptor of the reader, if lines are
+/// followed and there is one to wait for. It may wait.
 pub fn run_serve<
     H: Host + Net<Listener = TcpListener, Stream = TcpStream>,
     R: Read + Send,

@@ -1,4 +1,4 @@
-//! The command `serve` on a shelf, where witnesses must have cosigned what is shown.
+//! The command `serve` on a shelf, if witnesses must have cosigned what is shown.
 
 ghost use Rattle.std.specs.Prelude.{◌≡◌, ◌⊎◌, Err, IfOk, map, string_bytes, vec_items};
 ghost use Rattle.tl_device.specs.Device.{passage};
@@ -8,8 +8,8 @@ ghost use Rattle.tl_serve.specs.Asking.{AreKeysOf, ServesCosigned};
 ghost use Rattle.tl_serve.specs.Serving.{IsLeft, Serves};
 
 use crate::asked::{keys_of_asked, urls_of_asked};
+use crate::bound_listener::Site;
 use crate::cosigners::{Asking, AsksInRounds, Proposer, start_asking};
-use crate::entrance::Site;
 use crate::host::Host;
 use crate::options::ServeOptions;
 use crate::serve_shelf::{Served, run_serve_shelf};
@@ -35,12 +35,12 @@ use tl_ledger::Found;
 use tl_note::Verifier;
 use tl_source::Url;
 
-/// The shelf of a log whose checkpoints witnesses cosign, and what is to be beside it.
+/// The shelf of a log whose checkpoints witnesses cosign, and what belongs beside it.
 #[derive(Drop)]
 pub struct CosignedLog<S, T, P> {
     /// The shelf.
     pub shelf: S,
-    /// Who keeps what the log proposes.
+    /// The store of what the log proposes.
     pub store: T,
     /// Shelves of the same place, one for each thread that answers.
     pub shown: Vec<P>,
@@ -48,14 +48,15 @@ pub struct CosignedLog<S, T, P> {
     pub asked: Vec<P>,
 }
 
-// A shelf that is given back, how the server that had it ended, and what was read of it at first.
+// A shelf that is given back, how its server ended, and what was read of the shelf at first.
 #[derive(Drop)]
 struct Ended<S> {
     served: Served<S>,
     found: Found<Global>,
 }
 
-// What the options tell of a log and of its witnesses: their keys, the addresses of the latter, and their ballot.
+// What the options say of a log and of its witnesses: their keys, the addresses of the latter, and
+// their ballot.
 #[derive(Drop)]
 struct Ready<'o> {
     log: LogOpeningKey,
@@ -64,7 +65,7 @@ struct Ready<'o> {
     ballot: Arc<Ballot>,
 }
 
-// The same, read.
+// Reads keys and addresses from the options.
 fn prepare<'o, H: Host>(
     rt: &H,
     alloc: Global,
@@ -86,7 +87,7 @@ fn prepare<'o, H: Host>(
     })
 }
 
-// A shelf that is given back with nothing done.
+// Returns the shelf with nothing done.
 fn given_back<S: Drop, T: Drop, P: Drop>(log: CosignedLog<S, T, P>, fault: RunFault) -> Served<S>
     ensures shelf { result.shelf ≡ log.shelf }
     ensures fault { result.outcome ≡ Err fault }
@@ -163,7 +164,7 @@ fn serve_in<
     Ended { served, found }
 }
 
-// The same in a scope of threads.
+// Does the same in a scope of threads.
 fn serve_asked<
     H: Host + Net<Listener = TcpListener, Stream = TcpStream>,
     A: AsksInRounds<P> + Sync,
@@ -211,7 +212,7 @@ fn serve_asked<
     )
 }
 
-// Serves the log by these keys of it and of its witnesses.
+// Serves the log with these keys of it and of its witnesses.
 fn serve_keyed<
     'x,
     H: Host + Net<Listener = TcpListener, Stream = TcpStream>,
@@ -247,10 +248,12 @@ fn serve_keyed<
     ended.served
 }
 
-/// As `run_serve_shelf`, but each checkpoint is shown once so many of the witnesses that the options name have cosigned
-/// it (C2SP tlog-witness, tlog-cosignature): it is kept as a proposal, and a thread for each witness asks, with proofs
-/// from a shelf of its own. Why one gave no cosignature is told on `out`, and it is asked again after a pause. Meanwhile
-/// readers are shown what was shown before. `BadKey`: a text is of no witness's key, or two have one name; `Malformed`: one is no address.
+/// Serves as `run_serve_shelf` does, but shows a checkpoint only once enough of the witnesses have
+/// cosigned it (C2SP tlog-witness, tlog-cosignature). It is kept as a proposal, and a thread for
+/// each witness asks, with proofs from a shelf of its own. If one gives no cosignature, the reason
+/// is reported on `out`, and it is asked again after a pause. Meanwhile readers see what was shown
+/// before. `BadKey`: a text is no witness's key, or two have one name. `Malformed`: one is no
+/// address.
 pub fn run_serve_cosigned<
     H: Host + Net<Listener = TcpListener, Stream = TcpStream>,
     S: Shelf + Drop,

@@ -1,4 +1,4 @@
-//! The command `serve` on a shelf: a running log over HTTP that outlasts its server.
+//! The command `serve` on a shelf: a running log over HTTP that outlives its server.
 
 ghost use Rattle.std.specs.Prelude.{◌≡◌, ◌⊎◌, ◌∷◌, [], All, IfOk, OnOk, string_bytes};
 ghost use Rattle.sha2.specs.Sha256.{sha256};
@@ -12,14 +12,14 @@ ghost use Rattle.tl_append.specs.Running.{BeginsAsAsked, IsStart, visit};
 ghost use Rattle.tl_serve.specs.Serving.{IsLeft, Serves};
 ghost use Rattle.tl_serve.specs.Inner.Shelved.{IsClosed, ServesUnder};
 
-use crate::entrance::Site;
+use crate::bound_listener::Site;
 use crate::gate::OpenGate;
 use crate::host::Host;
 use crate::lanes::Sending;
 use crate::live_log::{LiveLog, MOST_ENTRIES};
-use crate::opening::{Plan, lanes_and_desk, read_plan};
+use crate::opening::{Plan, lanes_with_posts, read_plan};
 use crate::options::ServeOptions;
-use crate::pages::OnShelf;
+use crate::resources::OnShelf;
 use crate::running::Running;
 use crate::server::{Base, Server};
 use crate::serving::{Ran, check_closing, tell_end};
@@ -31,35 +31,35 @@ use tl_append::{LogKeys, LogOpeningKey, LogShelf, OpenedLog, check_asked, check_
 use tl_archive::Shelf;
 use tl_command::RunFault;
 use tl_device::Counted;
-use tl_heart::Heart;
 use tl_ledger::Found;
 use tl_lines::Lines;
+use tl_loop::PublishLoop;
 use tl_note::is_key_name;
 use tl_sequencer::{Intake, OpenFault, Submitter};
 
-/// A shelf that is given back, and how the server that had it ended.
+/// A shelf that is given back, and how its server ended.
 #[derive(Drop)]
 pub struct Served<S> {
     /// The shelf.
     pub shelf: S,
-    /// How it ended.
+    /// How the server ended.
     pub outcome: Result<(), RunFault>,
 }
 
-// What each thread answers from.
-fn pages_of<P: Drop>(
+// Returns what each thread answers from.
+fn resources_of<P: Drop>(
     alloc: Global,
     shown: Vec<P>,
     is_open: bool,
 ) -> Result<Vec<OnShelf<P>>, AllocError> {
-    let mut pages = Vec::new(alloc);
+    let mut resources = Vec::new(alloc);
     for shelf in shown {
-        pages.push(OnShelf { shelf, is_open })?;
+        resources.push(OnShelf { shelf, is_open })?;
     }
-    Ok(pages)
+    Ok(resources)
 }
 
-// The lanes of a log that has so many entries already, and their submitters.
+// Returns the lanes of a log that has this many entries already, and their submitters.
 fn open_lanes(
     alloc: Global,
     before: u64,
@@ -79,17 +79,17 @@ fn open_lanes(
     }
 }
 
-// A log that was found on a shelf, its lanes, and what answers.
+// A log that was found on a shelf, its lanes, and what it is answered from.
 #[derive(Drop)]
 struct Opened<P> {
     log: OpenedLog,
     intake: Intake<Global, Global>,
     lanes: Vec<Sending>,
-    pages: Vec<OnShelf<P>>,
+    resources: Vec<OnShelf<P>>,
     lines: Lines<Global>,
 }
 
-// Opens the log on a shelf, and the lanes that the options want.
+// Opens the log on a shelf, and the lanes that the options ask for.
 fn open_log<S: LogShelf + Drop, P: Drop, R: Read>(
     alloc: Global,
     options: &ServeOptions,
@@ -132,39 +132,40 @@ fn open_log<S: LogShelf + Drop, P: Drop, R: Read>(
         Err(fault) => return Err(fault),
     };
     let Plan { entries, lines, .. } = plan;
-    let lanes = lanes_and_desk(alloc, submitters, entries, options.takes_posts)?;
-    let pages = pages_of(alloc, shown, options.takes_posts)?;
+    let lanes = lanes_with_posts(alloc, submitters, entries, options.takes_posts)?;
+    let resources = resources_of(alloc, shown, options.takes_posts)?;
     Ok(Opened {
         log,
         intake,
         lanes,
-        pages,
+        resources,
         lines,
     })
 }
 
-// Closes a log that ran, where its heart says so, and tells that.
+// Closes a log that ran, if that is the next step of its loop, and reports it.
 fn close<S: LogShelf + Drop, L: Write>(
     alloc: Global,
     log: &ShelfLog<S>,
-    heart: Result<Heart<RunFault>, RunFault>,
+    last: Result<PublishLoop<RunFault>, RunFault>,
     is_quiet: bool,
     out: &mut Counted<L>,
 ) -> Result<(), RunFault>
     ensures { OnOk result (IsClosed log.now.intake log.now.is_due) }
 {
-    let heart = match check_closing(heart) {
-        Ok(heart) => heart,
+    let last = match check_closing(last) {
+        Ok(last) => last,
         Err(fault) => return Err(fault),
     };
     let size = match log.finish() {
         Ok(size) => size,
         Err(fault) => return Err(fault),
     };
-    tell_end(alloc, heart, size, is_quiet, out)
+    tell_end(alloc, last, size, is_quiet, out)
 }
 
-// What a log of so many entries on a shelf has, which may be due: the last of them are remembered, if any are.
+// Returns what a log of this size on a shelf has, and whether a publication is due. The last
+// entries are remembered, if any are.
 fn base_of<H: Host + Net<Listener = TcpListener, Stream = TcpStream>, S: Shelf>(
     server: &Server<'_, H, OpenGate>,
     shelf: &S,
@@ -180,7 +181,7 @@ fn base_of<H: Host + Net<Listener = TcpListener, Stream = TcpStream>, S: Shelf>(
     }
 }
 
-// Serves the log on a shelf under these keys.
+// Serves the log on a shelf with these keys.
 fn serve_under<
     H: Host + Net<Listener = TcpListener, Stream = TcpStream>,
     S: LogShelf + Drop,
@@ -223,7 +224,7 @@ fn serve_under<
         log,
         intake,
         lanes,
-        pages,
+        resources,
         lines,
     } = opened;
     let OpenedLog { ledger, is_due } = log;
@@ -234,20 +235,21 @@ fn serve_under<
         let (shelf, outcome) = (log.into_shelf(), Err(fault));
         return Served { shelf, outcome };
     }
-    let Ran { running, heart } = server.serve_published(
-        site, log, base, lanes, pages, lines, reader, out,
+    let Ran { running, last } = server.serve_published(
+        site, log, base, lanes, resources, lines, reader, out,
     );
-    let outcome = close(alloc, &running.log, heart, options.server.quiet, out);
+    let outcome = close(alloc, &running.log, last, options.server.quiet, out);
     let Running { log, .. } = running;
     let shelf = log.into_shelf();
     Served { shelf, outcome }
 }
 
-/// As `run_serve`, but the log is on a shelf, where it begins or goes on, and is served at this site: what its lanes
-/// give is put behind it, published, and told once it outlasts a crash. A thread for each of `shown`, which are to be of
-/// the same shelf (`threads_of` tells how many), answers with what is there. The server ends if the shelf fails. The
-/// shelf is given back; `found` has what was read of it. It may wait. `NothingThere`, `Taken`: there was no log, or there
-/// was one where one is to begin. `Older`: it hasn't got `start` entries.
+/// Serves as `run_serve` does, but at this site, and with the log on a shelf, where it begins or
+/// goes on. What its lanes give is appended, published, and reported once it survives a crash. A
+/// thread for each of `shown`, of which there are `threads_of`, answers with what is there. The
+/// server ends if the shelf fails. The shelf is given back; `found` has what was read. It may wait.
+/// `NothingThere`: no log is there. `Taken`: one is, but is to begin. `Older`: it lacks `start`
+/// entries.
 pub fn run_serve_shelf<
     H: Host + Net<Listener = TcpListener, Stream = TcpStream>,
     S: LogShelf + Drop,

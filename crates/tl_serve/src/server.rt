@@ -5,21 +5,21 @@ ghost use Rattle.tl_sequencer.specs.Log.{IsSenderOf};
 ghost use Rattle.tl_serve.specs.Inner.Running.{StaysRunning};
 
 use crate::awaited::Awaited;
-use crate::desk::Desk;
-use crate::door::Door;
-use crate::entrance::{Entrance, Site};
+use crate::bound_listener::{BoundListener, Site};
 use crate::following::Followed;
 use crate::gate::Gate;
 use crate::host::Host;
 use crate::lanes::Sending;
+use crate::listener::Listener;
 use crate::live_log::LiveLog;
-use crate::news::News;
 use crate::options::ServeOptions;
-use crate::pages::Pages;
 use crate::remembered::Remembered;
+use crate::resources::Resources;
 use crate::running::{Rounds, Running};
 use crate::serve::threads_of;
 use crate::serving::{Common, Ran, run_log};
+use crate::signals::Signals;
+use crate::submit_queue::SubmitQueue;
 use crate::telling::tell_in_memory;
 use mio::Waker;
 use std::alloc::Global;
@@ -31,7 +31,7 @@ use tl_command::RunFault;
 use tl_device::Counted;
 use tl_lines::Lines;
 
-// What is told before size and root.
+// The word that is reported before size and root.
 const PUBLISHED: &str = "published ";
 
 /// What a log is served with.
@@ -45,8 +45,8 @@ pub(crate) struct Server<'s, H, G> {
     pub(crate) gate: &'s G,
 }
 
-/// What a log has that is to be served: so many entries, of which some are remembered. Where it is due, the last of
-/// them aren't shown yet.
+/// What a log that is to be served has: its size, and the entries that are remembered. If it is
+/// due, the last entries aren't shown yet.
 #[derive(Drop)]
 pub(crate) struct Base {
     pub(crate) size: u64,
@@ -54,16 +54,17 @@ pub(crate) struct Base {
     pub(crate) remembered: Remembered,
 }
 
-// What a log is served with beside its pages.
+// What a log is served with beside its resources.
 #[derive(Drop)]
 struct Prepared<'r, R> {
     followed: Option<Followed<'r, R>>,
-    news: News,
-    door: Door,
+    signals: Signals,
+    listener: Listener,
 }
 
 impl<H: Host + Net<Listener = TcpListener, Stream = TcpStream>, G: Gate> Server<'_, H, G> {
-    /// How many readers the board has: one for each thread that answers, and one for that which tells.
+    /// Returns how many readers the board has: one for each thread that answers, and one for the
+    /// thread that reports.
     pub(crate) fn readers(&self) -> u32 {
         threads_of(self.rt, self.options.server.threads) + 1
     }
@@ -73,7 +74,8 @@ impl<H: Host + Net<Listener = TcpListener, Stream = TcpStream>, G: Gate> Server<
         self.options.follow || self.options.takes_posts
     }
 
-    // How much is taken at a time from so many lanes, behind so many entries, and what is told.
+    // Returns how much is taken at a time from this many lanes, after this many entries, and what
+    // is reported.
     fn rounds(&self, before: u64, lanes: usize) -> Rounds {
         Rounds {
             before,
@@ -97,23 +99,24 @@ impl<H: Host + Net<Listener = TcpListener, Stream = TcpStream>, G: Gate> Server<
         }
     }
 
-    // Opens the door, and tells where it is, and whether the log is in memory alone.
-    fn open_door<L: Write>(
+    // Opens the listener, and reports the address, and whether the log is in memory alone.
+    fn open_listener<L: Write>(
         &self,
-        entrance: &Entrance,
+        bound: &BoundListener,
         threads: usize,
         log: &mut Counted<L>,
-    ) -> Result<Door, RunFault> {
+    ) -> Result<Listener, RunFault> {
         let threads = u32::try_from(threads).unwrap_or(u32::MAX);
         let server = &self.options.server;
-        let door = Door::open(self.rt, self.alloc, server, entrance, threads, log)?;
+        let listener = Listener::open(self.rt, self.alloc, server, bound, threads, log)?;
         if self.options.dir.is_none() && !server.quiet {
             tell_in_memory(log)?;
         }
-        Ok(door)
+        Ok(listener)
     }
 
-    // The lines that are followed, if any are, and what wakes the thread that waits for them.
+    // Returns the lines that are followed, if any are, and what wakes the thread that waits for
+    // them.
     fn follow<'r, R: Read + Send>(
         &self,
         lines: Lines<Global>,
@@ -133,8 +136,8 @@ impl<H: Host + Net<Listener = TcpListener, Stream = TcpStream>, G: Gate> Server<
         Ok((Some(followed), Some(waker)))
     }
 
-    // The desk, if entries are taken that are posted, whose lane is the last of so many.
-    fn open_desk(&self, base: Base, lanes: usize) -> Result<Option<Desk>, RunFault> {
+    // Returns the queue, if posted entries are taken. Its lane is the last of this many.
+    fn open_queue(&self, base: Base, lanes: usize) -> Result<Option<SubmitQueue>, RunFault> {
         if !self.options.takes_posts {
             return Ok(None);
         }
@@ -146,11 +149,12 @@ impl<H: Host + Net<Listener = TcpListener, Stream = TcpStream>, G: Gate> Server<
             remembered,
         } = base;
         let shown = if is_due { 0 } else { size };
-        let desk = Desk::new(self.rt, self.alloc, lane, room, shown, remembered)?;
-        Ok(Some(desk))
+        let queue = SubmitQueue::new(self.rt, self.alloc, lane, room, shown, remembered)?;
+        Ok(Some(queue))
     }
 
-    // What a log is served with beside its pages: what is followed, what the threads tell, and the door.
+    // Returns what a log is served with beside its resources: the followed lines, the signals, and
+    // the listener.
     fn prepare<'r, R: Read + Send, L: Write>(
         &self,
         site: &Site<'_>,
@@ -162,21 +166,21 @@ impl<H: Host + Net<Listener = TcpListener, Stream = TcpStream>, G: Gate> Server<
         out: &mut Counted<L>,
     ) -> Result<Prepared<'r, R>, RunFault> {
         let (followed, following) = self.follow(lines, reader)?;
-        let desk = self.open_desk(base, lanes)?;
+        let queue = self.open_queue(base, lanes)?;
         let ballot = match site.ballot {
             Some(ballot) => Some(Arc::try_clone(ballot)?),
             None => None,
         };
-        let news = News::new(self.rt, self.alloc, following, desk, ballot)?;
-        let door = self.open_door(site.entrance, threads, out)?;
+        let signals = Signals::new(self.rt, self.alloc, following, queue, ballot)?;
+        let listener = self.open_listener(site.bound, threads, out)?;
         Ok(Prepared {
             followed,
-            news,
-            door,
+            signals,
+            listener,
         })
     }
 
-    /// What is remembered of posted entries: none yet.
+    /// Returns the list of remembered entries, empty at first.
     pub(crate) fn remembered(&self) -> Remembered {
         let most = if self.options.takes_posts {
             self.options.remember
@@ -186,14 +190,14 @@ impl<H: Host + Net<Listener = TcpListener, Stream = TcpStream>, G: Gate> Server<
         Remembered::new(self.rt, self.alloc, most)
     }
 
-    /// Serves a log at a site that was published, or is due, and hands it back.
-    pub(crate) fn serve_published<O: LiveLog, P: Pages + Send, R: Read + Send, L: Write>(
+    /// Serves a log at a site that was published, or is due, and gives it back.
+    pub(crate) fn serve_published<O: LiveLog, P: Resources + Send, R: Read + Send, L: Write>(
         &self,
         site: &Site<'_>,
         log: O,
         base: Base,
         lanes: Vec<Sending>,
-        pages: Vec<P>,
+        resources: Vec<P>,
         lines: Lines<Global>,
         reader: &mut Counted<R>,
         out: &mut Counted<L>,
@@ -206,25 +210,25 @@ impl<H: Host + Net<Listener = TcpListener, Stream = TcpStream>, G: Gate> Server<
         let running = Running::new(log, self.rounds(base.size, count), base.is_due);
         let Prepared {
             followed,
-            news,
-            door,
-        } = match self.prepare(site, base, count, lines, reader, pages.len(), out) {
+            signals,
+            listener,
+        } = match self.prepare(site, base, count, lines, reader, resources.len(), out) {
             Ok(prepared) => prepared,
             Err(fault) => {
                 return Ran {
                     running,
-                    heart: Err(fault),
+                    last: Err(fault),
                 };
             }
         };
         let common = Common {
             rt: self.rt,
             alloc: self.alloc,
-            door: &door,
+            listener: &listener,
             gate: self.gate,
-            news: &news,
+            signals: &signals,
             interval: self.options.interval,
         };
-        run_log(common, running, pages, lanes, followed, out)
+        run_log(common, running, resources, lanes, followed, out)
     }
 }

@@ -4,7 +4,8 @@ use std::io::{self, ErrorKind, Write};
 use std::sync::{Mutex, Wait};
 use tl_device::Counted;
 
-/// A writer that several parts of a run write to: each text whole, where one call takes it. It may wait.
+/// A writer that several parts of a run write to. Each text is written whole if one call takes it.
+/// It may wait.
 #[derive(Drop)]
 pub(crate) struct SharedWriter<'s, 'w, H, L> {
     pub(crate) rt: &'s H,

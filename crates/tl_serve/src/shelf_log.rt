@@ -1,4 +1,4 @@
-//! A log that runs on a shelf.
+//! A running log on a shelf.
 
 ghost use Rattle.std.specs.Prelude.{◌≡◌, ◌≢◌, [], Some, false, IfOk};
 ghost use Rattle.tl_note.specs.Key.{IsKeyName};
@@ -15,8 +15,8 @@ use tl_hash::Head;
 use tl_ledger::Ledger;
 use tl_sequencer::{Ended, Intake};
 
-/// A log on a shelf: its lanes, and the ledger of what is on the shelf. Memory has what waits to be put there. What it
-/// began with stands beside it in contracts alone.
+/// A log on a shelf: its lanes, and the ledger of what is on the shelf. What waits to be put there
+/// is in memory. What it began with is there for contracts alone.
 #[derive(Drop)]
 pub(crate) struct ShelfLog<S> {
     alloc: Global,
@@ -30,15 +30,15 @@ pub(crate) struct ShelfLog<S> {
     was: Snapshot<Ledger<Global>>,
 }
 
-// Whether a publication is due, as it was before, or since something waits.
+// Whether a publication is due: it was due before, or something waits.
 fn is_due_now(was_due: bool, intake: &Intake<Global, Global>) -> bool
     ensures { result ≡ false → (was_due ≡ false) × (intake.now.waiting ≡ []) }
 {
     was_due || !intake.waiting().is_empty()
 }
 
-// Lets go of what waits, where the log grew by it.
-fn let_go(intake: &mut Intake<Global, Global>, before: u64, after: u64)
+// Drains what waits, if the log grew by it.
+fn drain_if_grown(intake: &mut Intake<Global, Global>, before: u64, after: u64)
     ensures log { intake.new.log ≡ intake.old.log }
     ensures gone { before ≢ after → (intake.new.drained ≡ intake.old.log.taken)
         × (intake.new.waiting ≡ []) }
@@ -50,8 +50,8 @@ fn let_go(intake: &mut Intake<Global, Global>, before: u64, after: u64)
 }
 
 impl<S: LogShelf + Drop> ShelfLog<S> {
-    /// A log on this shelf, of which the ledger is, whose lanes gave nothing yet. `is_due`: it was never published, or
-    /// has entries that aren't.
+    /// Returns a log on this shelf, with its ledger, whose lanes gave nothing yet. `is_due`: it was
+    /// never published, or has entries that aren't.
     pub(crate) fn new(
         alloc: Global,
         key: LogSigningKey,
@@ -87,7 +87,8 @@ impl<S: LogShelf + Drop> ShelfLog<S> {
         }
     }
 
-    /// How many entries the log has, where it is complete: the end of each lane was taken in, and all is published.
+    /// Returns how many entries the log has, if it is complete: the end of each lane was taken in,
+    /// and all is published.
     pub(crate) fn finish(&self) -> Result<u64, RunFault>
         ensures closed { IfOk result (λ _. IsClosed self.now.intake self.now.is_due) }
         ensures size { IfOk result (λ n. n ≡ self.now.ledger.edge.size) }
@@ -113,7 +114,7 @@ impl<S: LogShelf + Drop> ShelfLog<S> {
         }
     }
 
-    /// The shelf.
+    /// Returns the shelf.
     pub(crate) fn into_shelf(self) -> S
         ensures { result ≡ self.shelf }
     {
@@ -179,7 +180,7 @@ impl<S: LogShelf + Drop> LiveLog for ShelfLog<S> {
         let outcome = self
             .shelf
             .append(self.alloc, &self.key, waiting, &mut self.ledger);
-        let_go(&mut self.intake, size, self.ledger.size());
+        drain_if_grown(&mut self.intake, size, self.ledger.size());
         match outcome {
             Ok(()) => {
                 self.is_due = false;

@@ -1,4 +1,4 @@
-//! What a server tells of itself.
+//! What a server reports.
 
 ghost use Rattle.std.specs.Prelude.{codes};
 ghost use Rattle.tl_device.specs.Device.{passage};
@@ -11,11 +11,11 @@ use tl_command::{RunFault, print_text};
 use tl_device::Counted;
 use tl_hash::Head;
 
-// What is told of a log that is nowhere but in memory.
+// The report on a log that is in memory alone.
 const IN_MEMORY: &str =
     "in memory: nothing of this log outlasts the program; readers who kept a checkpoint will find it shrunk\n";
 
-/// Tells size and root of a publication, after this word.
+/// Reports size and root of a publication, after this word.
 pub(crate) fn tell_head<L: Write>(
     alloc: Global,
     log: &mut Counted<L>,
@@ -33,7 +33,7 @@ pub(crate) fn tell_head<L: Write>(
     }
 }
 
-/// Tells how many entries the log has that was closed.
+/// Reports how many entries the closed log has.
 pub(crate) fn tell_closed<L: Write>(
     alloc: Global,
     log: &mut Counted<L>,
@@ -48,7 +48,7 @@ pub(crate) fn tell_closed<L: Write>(
     }
 }
 
-/// Tells that the line with this number, counted from 0, is too long and was left out.
+/// Reports that the line with this number, counted from 0, is too long and was left out.
 pub(crate) fn tell_too_long<L: Write>(
     alloc: Global,
     log: &mut Counted<L>,
@@ -63,7 +63,7 @@ pub(crate) fn tell_too_long<L: Write>(
     }
 }
 
-/// Tells that the input has ended.
+/// Reports that the input has ended.
 pub(crate) fn tell_input_ended<L: Write>(log: &mut Counted<L>) -> Result<(), RunFault>
     ensures { Tells told_input_ended (passage L.contents log.old log.new) result }
 {
@@ -73,7 +73,7 @@ pub(crate) fn tell_input_ended<L: Write>(log: &mut Counted<L>) -> Result<(), Run
     }
 }
 
-/// Tells how many lines came and were not published.
+/// Reports how many lines came and were not published.
 pub(crate) fn tell_not_published<L: Write>(
     alloc: Global,
     log: &mut Counted<L>,
@@ -88,7 +88,7 @@ pub(crate) fn tell_not_published<L: Write>(
     }
 }
 
-/// Tells why an address is refused.
+/// Reports why an address is refused.
 pub(crate) fn tell_refused<L: Write>(
     alloc: Global,
     log: &mut Counted<L>,
@@ -99,7 +99,7 @@ pub(crate) fn tell_refused<L: Write>(
     print_text(log, line.as_bytes())
 }
 
-/// Tells that the log is in memory alone.
+/// Reports that the log is in memory alone.
 pub(crate) fn tell_in_memory<L: Write>(log: &mut Counted<L>) -> Result<(), RunFault> {
     print_text(log, IN_MEMORY.as_bytes())
 }

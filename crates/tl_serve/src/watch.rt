@@ -6,7 +6,7 @@ use std::net::Net;
 use std::time::Duration;
 use tl_command::RunFault;
 
-// How many events of the system are told at once.
+// The most events that one poll returns.
 const MOST_EVENTS: usize = 4;
 
 /// What a thread waits with.
@@ -17,7 +17,7 @@ pub(crate) struct Watch {
 }
 
 impl Watch {
-    /// A wait, and what ends it. `Read`: the system refuses.
+    /// Returns a watch, and what wakes it. `Read`: the system refuses.
     pub(crate) fn new<H: Net>(rt: &H, alloc: Global) -> Result<(Watch, Waker), RunFault> {
         let events = Events::with_capacity(alloc, MOST_EVENTS)?;
         let Ok(poll) = Poll::new(rt) else {
@@ -29,7 +29,7 @@ impl Watch {
         }
     }
 
-    /// Waits until it is woken, no longer than this. `Read`: the system refuses to wait.
+    /// Waits until it is woken, at most this long. `Read`: the system refuses to wait.
     pub(crate) fn wait(&mut self, limit: Option<Duration>) -> Result<(), RunFault> {
         match self.poll.poll(&mut self.events, limit) {
             Ok(()) => Ok(()),

@@ -9,8 +9,8 @@ ghost use Rattle.tl_command.specs.Origins.{RefusesOrigin};
 ghost use Rattle.tl_serve.specs.Inner.Stating.{HaveState, LackState, ReadsLines};
 ghost use Rattle.tl_serve.specs.Knowing.{RefusesLog};
 
+use crate::bound_listener::BoundListener;
 use crate::cosigner::Own;
-use crate::entrance::Entrance;
 use crate::host::Host;
 use crate::listed::run_listed;
 use crate::options::{KnownLogs, LogVerifierKey, WitnessOptions, WitnessSignerKey};
@@ -29,7 +29,7 @@ use tl_note::{NoteFault, Signer, Verifier, is_key_name};
 use tl_proof::Link;
 use tl_witness::{Book, BookFault, ChainFault, SharedWitness, Trust, read_chain};
 
-/// The chains of the state that the reader gives, of each of these logs, or of all, in one link.
+/// Reads the chains of the reader's state, each in one link: those of these logs, or of all.
 pub(crate) fn read_chains<R: Read>(
     alloc: Global,
     logs: Option<&[KnownLog<Global>]>,
@@ -48,7 +48,7 @@ pub(crate) fn read_chains<R: Read>(
     }
 }
 
-// The chains of the lines that standard input is.
+// Reads the chains of the lines on standard input.
 fn printed_chains<R: Read>(
     alloc: Global,
     reader: &mut Counted<R>,
@@ -63,7 +63,7 @@ fn printed_chains<R: Read>(
     }
 }
 
-// Why a book was not opened.
+// Returns why a book was not opened.
 fn refusal(fault: BookFault) -> RunFault {
     match fault {
         BookFault::OutOfMemory => RunFault::OutOfMemory,
@@ -74,7 +74,7 @@ fn refusal(fault: BookFault) -> RunFault {
     }
 }
 
-/// Serves a witness that trusts these, and has cosigned these chains.
+/// Serves a witness that trusts these and has cosigned these chains.
 pub(crate) fn serve_trusted<
     H: Host + Net<Listener = TcpListener, Stream = TcpStream>,
     O: Write + Send,
@@ -83,7 +83,7 @@ pub(crate) fn serve_trusted<
     rt: &H,
     alloc: Global,
     options: &WitnessOptions,
-    entrance: Option<&Entrance>,
+    bound: Option<&BoundListener>,
     trusts: Vec<Trust<Global>>,
     chains: Vec<(String, Vec<Link<Global>>)>,
     writer: &mut Counted<O>,
@@ -96,10 +96,10 @@ pub(crate) fn serve_trusted<
     let Ok(witness) = SharedWitness::new(book) else {
         return Err(RunFault::OutOfMemory);
     };
-    serve_all(rt, alloc, options, entrance, &witness, writer, log)
+    serve_all(rt, alloc, options, bound, &witness, writer, log)
 }
 
-// Whom a witness trusts that knows one log by this key and cosigns by that one.
+// Returns whom a witness trusts that knows one log by this key and cosigns with that one.
 fn trust_of(
     alloc: Global,
     origin: &str,
@@ -118,7 +118,7 @@ fn trust_of(
     Ok(trusts)
 }
 
-// A demonstration key; a name that is no key's has this fault.
+// Returns a demonstration key. If the name is no key's, the fault is this one.
 fn demonstration(
     alloc: Global,
     name: &str,
@@ -139,7 +139,7 @@ enum Known {
     Public(VerifierKey<Note, Global>),
 }
 
-// The key that a log of this name is known by. `BadOrigin`: it is of another name.
+// Returns the key that a log of this name is known by. `BadOrigin`: it is of another name.
 fn known_key(alloc: Global, origin: &str, key: &LogVerifierKey) -> Result<Known, RunFault> {
     match key {
         LogVerifierKey::Secret(secret) => {
@@ -156,7 +156,7 @@ fn known_key(alloc: Global, origin: &str, key: &LogVerifierKey) -> Result<Known,
     }
 }
 
-/// The key that the options name for the witness.
+/// Returns the key that the options name for the witness.
 pub(crate) fn own_key<H: Files>(
     rt: &H,
     alloc: Global,
@@ -185,7 +185,7 @@ fn run_one<
     rt: &H,
     alloc: Global,
     options: &WitnessOptions,
-    entrance: Option<&Entrance>,
+    bound: Option<&BoundListener>,
     origin: &str,
     key: &LogVerifierKey,
     reader: &mut Counted<R>,
@@ -210,14 +210,14 @@ fn run_one<
         Own::Private(key) => Box::new(alloc, key)?,
     };
     let trusts = trust_of(alloc, origin, verifier, cosigner)?;
-    serve_trusted(rt, alloc, options, entrance, trusts, chains, writer, log)
+    serve_trusted(rt, alloc, options, bound, trusts, chains, writer, log)
 }
 
-/// Serves a witness over HTTP, at this entrance, if there is one, or else at the address of the options: reads the lines
-/// that an earlier run printed, tells the address, then answers connections, each by `tl_server::serve_witness`, and
-/// ends after as many as the options say, or once something fails. A line for each checkpoint that it cosigns anew is
-/// printed before the answer; where that fails, it ends. Lines of logs that a file doesn't name are passed over. It may
-/// wait.
+/// Serves a witness over HTTP, at this bound address or else at that of the options. It reads the
+/// lines that an earlier run printed, reports the address, then answers connections, each by
+/// `tl_server::serve_witness`, and ends after as many as the options say, or once something fails.
+/// A line for each checkpoint that it cosigns anew is printed before the answer; if that fails, it
+/// ends. Lines of logs that a file doesn't name are passed over. It may wait.
 pub fn run_witness<
     H: Host + Net<Listener = TcpListener, Stream = TcpStream>,
     R: Read,
@@ -227,7 +227,7 @@ pub fn run_witness<
     rt: &H,
     alloc: Global,
     options: &WitnessOptions,
-    entrance: Option<&Entrance>,
+    bound: Option<&BoundListener>,
     reader: &mut Counted<R>,
     writer: &mut Counted<O>,
     log: &mut Counted<L>,
@@ -236,10 +236,10 @@ pub fn run_witness<
 {
     match &options.logs {
         KnownLogs::One(origin, key) => after_run(run_one(
-            rt, alloc, options, entrance, origin, key, reader, writer, log,
+            rt, alloc, options, bound, origin, key, reader, writer, log,
         )),
         KnownLogs::Listed(path) => {
-            run_listed(rt, alloc, options, entrance, path, reader, writer, log)
+            run_listed(rt, alloc, options, bound, path, reader, writer, log)
         }
     }
 }

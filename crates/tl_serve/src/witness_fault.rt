@@ -11,11 +11,11 @@ use tl_logs::{LogsFault, StateFault};
 /// Why a witness ends without success.
 #[derive(Clone, Copy, Debug, PartialEq, Eq)]
 pub enum WitnessFault {
-    /// A fault as other commands have it, too.
+    /// A fault that other commands have, too.
     Run(RunFault),
-    /// The file of the logs isn't read.
+    /// The file of the logs can't be read.
     LogsFile(DeviceFault),
-    /// A line of it isn't taken.
+    /// A line of it isn't accepted.
     Logs(LogsFault),
 }
 
@@ -51,7 +51,7 @@ impl From<RunFault> for WitnessFault {
     }
 }
 
-/// Why a state isn't read, as other commands tell it.
+/// Returns why a state can't be read, as other commands report it.
 pub(crate) fn state_refusal(fault: StateFault) -> RunFault
     ensures { result ≡ by_state fault }
 {
@@ -74,7 +74,7 @@ impl From<StateFault> for WitnessFault {
     }
 }
 
-// How a witness ended that ends as other commands do.
+// Returns how a witness ended that ends as other commands do.
 pub(crate) fn after_run(outcome: Result<(), RunFault>) -> Result<(), WitnessFault>
     ensures { result ≡ by_witness outcome }
 {

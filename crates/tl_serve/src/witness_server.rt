@@ -1,15 +1,15 @@
-//! The server of a witness: the connections that are answered, and by which threads.
+//! The server of a witness: which connections are answered, and by which threads.
 
 use crate::answering::answer;
-use crate::door::Door;
-use crate::entrance::Entrance;
+use crate::bound_listener::BoundListener;
 use crate::host::Host;
-use crate::news::News;
+use crate::listener::Listener;
 use crate::options::WitnessOptions;
-use crate::pages::{Pages, outcome_of};
 use crate::queue::LineQueue;
+use crate::resources::{Resources, outcome_of};
 use crate::saver::LineSaver;
 use crate::serve::threads_of;
+use crate::signals::Signals;
 use mio::Poll;
 use std::alloc::Global;
 use std::io::{Read, Write};
@@ -20,20 +20,21 @@ use std::thread::Scope;
 use std::time::{Clock, SystemTime, UNIX_EPOCH};
 use tl_command::RunFault;
 use tl_device::Counted;
-use tl_heart::Event;
-use tl_server::{Outcome, ServeFault, Teller, Witness, serve_witness};
+use tl_loop::Event;
+use tl_server::{Outcome, ServeFault, Submits, Witness, serve_witness};
 
 // What requests to a witness are answered from.
 #[derive(Drop)]
-struct Asked<'w, 'o, H, W, O> {
+struct WitnessResources<'w, 'o, H, W, O> {
     rt: &'w H,
     witness: &'w W,
     time: Option<u64>,
     queue: &'w LineQueue<'o, O>,
-    news: &'w News,
+    signals: &'w Signals,
 }
 
-// The seconds since 1970 to cosign with: those that were given, or else those of the machine's clock.
+// Returns the seconds since 1970 to cosign with: those that were given, or else those of the
+// machine's clock.
 fn seconds<H: Clock>(rt: &H, given: Option<u64>) -> u64 {
     if let Some(seconds) = given {
         return seconds;
@@ -47,19 +48,20 @@ fn seconds<H: Clock>(rt: &H, given: Option<u64>) -> u64 {
     }
 }
 
-impl<H: Clock + Wait, W: Witness<Global>, O: Write> Pages for Asked<'_, '_, H, W, O> {
-    fn answer<I: Read, Z: Write, T: Teller>(
+impl<H: Clock + Wait, W: Witness<Global>, O: Write> Resources
+    for WitnessResources<'_, '_, H, W, O> {
+    fn answer<I: Read, Z: Write, T: Submits>(
         &mut self,
         alloc: Global,
         reader: &mut Counted<I>,
         writer: &mut Counted<Z>,
-        _teller: &mut T,
+        _queue: &mut T,
     ) -> Result<Outcome, ServeFault> {
         let (rt, time) = (self.rt, seconds(self.rt, self.time));
         let mut saver = LineSaver::new(rt, alloc, self.queue);
         let outcome = serve_witness(rt, alloc, reader, writer, self.witness, time, &mut saver);
         if saver.has_failed() {
-            self.news.tell_fault(rt, RunFault::Write);
+            self.signals.report_fault(rt, RunFault::Write);
         }
         Ok(outcome_of(outcome?))
     }
@@ -69,24 +71,25 @@ impl<H: Clock + Wait, W: Witness<Global>, O: Write> Pages for Asked<'_, '_, H, W
 fn answer_witness<H: Clock + Net + Wait, W: Witness<Global>, O: Write>(
     rt: &H,
     alloc: Global,
-    door: &Door,
+    listener: &Listener,
     poll: Poll,
     witness: &W,
     time: Option<u64>,
     queue: &LineQueue<'_, O>,
-    news: &News,
+    signals: &Signals,
 ) {
-    let pages = Asked {
+    let resources = WitnessResources {
         rt,
         witness,
         time,
         queue,
-        news,
+        signals,
     };
-    answer(rt, alloc, door, poll, pages, news);
+    answer(rt, alloc, listener, poll, resources, signals);
 }
 
-// Starts the threads that answer, and waits until all connections are answered or something fails: which of them.
+// Starts the threads that answer, and waits until all connections are answered. Fails as soon as
+// something does.
 fn answer_in<
     's,
     'o: 's,
@@ -99,20 +102,20 @@ fn answer_in<
     rt: &'s H,
     alloc: Global,
     time: Option<u64>,
-    door: &'s Door,
+    listener: &'s Listener,
     witness: &'s W,
     queue: &'s LineQueue<'o, O>,
-    news: &'s News,
+    signals: &'s Signals,
 ) -> Result<(), RunFault> {
     let mut threads: u64 = 0;
     for _ in 0..u64::MAX {
-        let Some(poll) = door.next_poll(rt) else {
+        let Some(poll) = listener.next_poll(rt) else {
             break;
         };
-        news.begin_answering();
-        let job = move || answer_witness(rt, alloc, door, poll, witness, time, queue, news);
+        signals.begin_answering();
+        let job = move || answer_witness(rt, alloc, listener, poll, witness, time, queue, signals);
         if scope.spawn(job).is_err() {
-            news.end_answering();
+            signals.end_answering();
             break;
         }
         threads = threads.saturating_add(1);
@@ -120,11 +123,11 @@ fn answer_in<
     if threads == 0 {
         return Err(RunFault::OutOfMemory);
     }
-    let outcome = match news.wait(rt) {
+    let outcome = match signals.wait(rt) {
         Event::Failed(fault) => Err(fault),
         _ => Ok(()),
     };
-    door.close();
+    listener.close();
     outcome
 }
 
@@ -137,31 +140,31 @@ fn answer_all<
     rt: &H,
     alloc: Global,
     time: Option<u64>,
-    door: &Door,
+    listener: &Listener,
     witness: &W,
     queue: &LineQueue<'_, O>,
-    news: &News,
+    signals: &Signals,
 ) -> Result<(), RunFault> {
     thread::scope(thread::scope_env(), rt, |scope| {
-        answer_in(scope, rt, alloc, time, door, witness, queue, news)
+        answer_in(scope, rt, alloc, time, listener, witness, queue, signals)
     })
 }
 
-// Opens the door of a witness, at its entrance, if it has one.
-fn open_door<H: Host + Net<Listener = TcpListener, Stream = TcpStream>, L: Write>(
+// Opens the listener of a witness, at its bound address if it has one.
+fn open_listener<H: Host + Net<Listener = TcpListener, Stream = TcpStream>, L: Write>(
     rt: &H,
     alloc: Global,
     options: &WitnessOptions,
-    entrance: Option<&Entrance>,
+    bound: Option<&BoundListener>,
     threads: u32,
     log: &mut Counted<L>,
-) -> Result<Door, RunFault> {
+) -> Result<Listener, RunFault> {
     let server = &options.server;
-    if let Some(entrance) = entrance {
-        return Door::open(rt, alloc, server, entrance, threads, log);
+    if let Some(bound) = bound {
+        return Listener::open(rt, alloc, server, bound, threads, log);
     }
-    let entrance = Entrance::open(rt, alloc, server, log)?;
-    Door::open(rt, alloc, server, &entrance, threads, log)
+    let bound = BoundListener::bind(rt, alloc, server, log)?;
+    Listener::open(rt, alloc, server, &bound, threads, log)
 }
 
 /// Listens, and answers connections to a witness.
@@ -174,14 +177,22 @@ pub(crate) fn serve_all<
     rt: &H,
     alloc: Global,
     options: &WitnessOptions,
-    entrance: Option<&Entrance>,
+    bound: Option<&BoundListener>,
     witness: &W,
     writer: &mut Counted<O>,
     log: &mut Counted<L>,
 ) -> Result<(), RunFault> {
     let threads = threads_of(rt, options.server.threads);
-    let news = News::new(rt, alloc, None, None, None)?;
-    let door = open_door(rt, alloc, options, entrance, threads, log)?;
+    let signals = Signals::new(rt, alloc, None, None, None)?;
+    let listener = open_listener(rt, alloc, options, bound, threads, log)?;
     let queue = LineQueue::new(alloc, &mut *writer)?;
-    answer_all(rt, alloc, options.time, &door, witness, &queue, &news)
+    answer_all(
+        rt,
+        alloc,
+        options.time,
+        &listener,
+        witness,
+        &queue,
+        &signals,
+    )
 }

@@ -39,7 +39,7 @@ impl Model for LinkLine {
 }
 
 impl LinkLine {
-    /// The line of a link. It fails only where a growth was refused.
+    /// Returns the line of a link. Fails only if allocation fails.
     pub(crate) fn of<A: Allocator>(
         alloc: Global,
         origin: &str,
@@ -56,7 +56,7 @@ impl LinkLine {
         })
     }
 
-    // The text of the line.
+    // Returns the text of the line.
     fn text(&self) -> &str
         ensures { result.now ≡ chain_line (link_of self.now) }
     {
@@ -64,8 +64,8 @@ impl LinkLine {
     }
 }
 
-/// A link of an origin whose line was written whole: `write_lines` alone makes one. Contracts see the origin and the
-/// step.
+/// A link of an origin whose line was written whole. Only `write_lines` makes one. Contracts see
+/// the origin and the step.
 #[derive(Drop)]
 pub(crate) struct WrittenLink {
     line: LinkLine,
@@ -106,7 +106,7 @@ impl WrittenLink {
     }
 }
 
-// The texts of lines, one after the other.
+// Returns the texts of lines, one after another.
 fn text_of(alloc: Global, lines: &[LinkLine]) -> Result<String, AllocError>
     ensures { IfOk result (λ text. string_bytes text ≡ link_lines lines.now) }
 {
@@ -117,7 +117,8 @@ fn text_of(alloc: Global, lines: &[LinkLine]) -> Result<String, AllocError>
     Ok(text)
 }
 
-/// Writes lines, all at once as far as the writer takes them. Behind a line that was cut short none is written.
+/// Writes lines, all at once as far as the writer takes them. After a line that was cut short none
+/// is written.
 pub(crate) fn write_lines<O: Write>(
     alloc: Global,
     out: &mut Counted<O>,

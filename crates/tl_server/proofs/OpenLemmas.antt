@@ -8,18 +8,18 @@ use Rattle.tl_device.specs.Device.{IsUnwritten, Passage}
 use Rattle.tl_device.specs.Reading.{Gave, MayBe}
 use Rattle.tl_tile.specs.Bundle.{most_entry}
 use Rattle.tl_tile.specs.declared.resource.Resource.{Resource}
-use Rattle.tl_server.specs.Adding.{Course, Reply, Misplace, Postpone, OpenDecides, ToldAnswers, index_answer}
+use Rattle.tl_server.specs.Adding.{Course, Reply, Misplace, Postpone, OpenDecides, StatusAnswers, index_answer}
 use Rattle.tl_server.specs.Answer.{Answer, bare, plain_text}
 use Rattle.tl_server.specs.Exchange.{Begun}
 use Rattle.tl_server.specs.Log.{ResourceAnswers}
 use Rattle.tl_server.specs.Serve.{Sends}
 use Rattle.tl_server.specs.ServeOpen.{OpenExchange, ServesOpen, Takes, Took}
 use Rattle.tl_server.specs.Inner.Deciding.{Answered, IsHeaded, ReadNoHead, Rest}
-use Rattle.tl_server.specs.Inner.Opening.{outcome_of, SomeTold}
+use Rattle.tl_server.specs.Inner.Opening.{outcome_of, SomeStatus}
 use Rattle.tl_server.specs.Inner.Posts.{AsksPost, PostCourses, PostedRows, ReceivedBody, RefusesPost}
 use Rattle.tl_server.specs.declared.adding.Outcome.{Outcome}
 use Rattle.tl_server.specs.declared.adding.Outcome.TheVariants as outcome
-use Rattle.tl_server.specs.declared.adding.Told.{Told}
+use Rattle.tl_server.specs.declared.adding.EntryStatus.{EntryStatus}
 use Rattle.tl_server.specs.declared.fault.ServeFault.{ServeFault}
 use Rattle.tl_server.specs.declared.fault.ServeFault.TheVariants.{Read, Write}
 use Rattle.tl_server.specs.declared.posted.Posted.{Posted}
@@ -45,7 +45,7 @@ pub index_takes : (index : ℕ) (text : List ℕ) (o : Passage) (sent : Result (
 index_takes index text o sent result same sends is =
     sent_takes (index_answer index) o sent result (subst (λ (l : List ℕ). Sends (record { status = 200; allow = []; kind = plain_text; body = l }) o sent) same sends) is
 
--- the answer to an entry that isn't where it was told to be was written
+-- the answer to an entry that isn't at the reported index was written
 pub misplaced_whole : (o : Passage) (status : Option ℕ) → Sends (bare 500) o (Ok status) → Takes Misplace o (Ok outcome.Misplaced)
 misplaced_whole o None sends = absurd sends
 misplaced_whole o (Some status) sends = (refl, sends.1)
@@ -164,19 +164,19 @@ rest_open Idle Courses i o bytes ended course result gave so takes = took_serves
 -- ---- the table
 
 -- another target is answered as of a log
-pub other_page : (Looks : (Resource → Answer → Type 0) → ℕ → ℕ → ℕ → Answer → Type 0) (Tells : List ℕ → Told → Type 0) (Idle Unasked Unseen : Type 0) (Gives : Resource → Answer → Type 0)
+pub other_page : (Looks : (Resource → Answer → Type 0) → ℕ → ℕ → ℕ → Answer → Type 0) (Submits : List ℕ → EntryStatus → Type 0) (Idle Unasked Unseen : Type 0) (Gives : Resource → Answer → Type 0)
     (i o : Passage) (buf : List ℕ) (headers : List HeaderSpan) (len : ℕ) (spans : RequestSpans)
     (method target : List ℕ) (sent : Result (Option ℕ) ServeFault) (result : Result Outcome ServeFault)
     → IsHeaded i buf headers len spans → method ≡ span_bytes (take len buf) spans.method → target ≡ span_bytes (take len buf) spans.path
     → ¬ (target ≡ codes "/add") → Unasked → Answered (ResourceAnswers Unseen Gives method target) o sent → result ≡ outcome_of sent
-    → ServesOpen Idle (OpenExchange Idle (OpenDecides Unasked Tells Unseen Gives (Looks Gives))) i o result
-other_page Looks Tells Idle Unasked Unseen Gives i o buf headers len spans method target sent result is same_method same_target other unasked answered same =
+    → ServesOpen Idle (OpenExchange Idle (OpenDecides Unasked Submits Unseen Gives (Looks Gives))) i o result
+other_page Looks Submits Idle Unasked Unseen Gives i o buf headers len spans method target sent result is same_method same_target other unasked answered same =
     let head = head_in i buf headers len spans is in
     let at = is.of.1 in
     let decided : ResourceAnswers Unseen Gives head.method head.target answered.answer =
     subst (λ (m : List ℕ). ResourceAnswers Unseen Gives m head.target answered.answer) (same_method ∙ at.method)
     (subst (λ (t : List ℕ). ResourceAnswers Unseen Gives method t answered.answer) (same_target ∙ at.path) answered.decided) in
-    decided_open Idle (OpenDecides Unasked Tells Unseen Gives (Looks Gives)) i o buf headers len spans is (Reply answered.answer) result
+    decided_open Idle (OpenDecides Unasked Submits Unseen Gives (Looks Gives)) i o buf headers len spans is (Reply answered.answer) result
     (λ rest. inl ((λ e. other (same_target ∙ (at.path ∙ e))), (unasked, (answered.answer, decided, refl))))
     (sent_takes answered.answer o sent result answered.sends same)
 
@@ -187,29 +187,29 @@ refused_course Unasked Unseen Takes posted rest a is unasked unseen =
     refused_rows (λ r. Unasked × Unseen × (Reply a ≡ Reply r)) Takes posted rest a is (unasked, unseen, refl)
 
 -- what becomes of an entry that was read
-pub received_course : (Unasked Unseen : Type 0) (Tells : List ℕ → Told → Type 0) (Becomes : Told → List ℕ → Course → Type 0) (i : Passage) (posted : Posted) (part body entry rest : List ℕ) (told : Told) (c : Course)
+pub received_course : (Unasked Unseen : Type 0) (Submits : List ℕ → EntryStatus → Type 0) (Becomes : EntryStatus → List ℕ → Course → Type 0) (i : Passage) (posted : Posted) (part body entry rest : List ℕ) (entry_status : EntryStatus) (c : Course)
     (is : ReceivedBody i posted part body)
-    → entry ≡ body → MayBe is.read.bytes false rest → Tells entry told → Becomes told entry c → PostCourses Unasked Unseen (SomeTold Tells Becomes) posted part rest c
-received_course Unasked Unseen Tells Becomes i posted part body entry rest told c is same may tells becomes =
-    received_rows (λ r. Unasked × Unseen × (c ≡ Reply r)) (λ b. SomeTold Tells Becomes b c) i posted part body rest is may
-    (told, subst (λ (b : List ℕ). Tells b told) same tells, subst (λ (b : List ℕ). Becomes told b c) same becomes)
+    → entry ≡ body → MayBe is.read.bytes false rest → Submits entry entry_status → Becomes entry_status entry c → PostCourses Unasked Unseen (SomeStatus Submits Becomes) posted part rest c
+received_course Unasked Unseen Submits Becomes i posted part body entry rest entry_status c is same may tells becomes =
+    received_rows (λ r. Unasked × Unseen × (c ≡ Reply r)) (λ b. SomeStatus Submits Becomes b c) i posted part body rest is may
+    (entry_status, subst (λ (b : List ℕ). Submits b entry_status) same tells, subst (λ (b : List ℕ). Becomes entry_status b c) same becomes)
 
 -- the rows from the method on are those of the table
-open_rows : (Unasked : Type 0) (Tells : List ℕ → Told → Type 0) (Unseen : Type 0) (Gives : Resource → Answer → Type 0) (Looks : ℕ → ℕ → ℕ → Answer → Type 0) (b : Begun) (c : Course)
+open_rows : (Unasked : Type 0) (Submits : List ℕ → EntryStatus → Type 0) (Unseen : Type 0) (Gives : Resource → Answer → Type 0) (Looks : ℕ → ℕ → ℕ → Answer → Type 0) (b : Begun) (c : Course)
     → b.head.target ≡ codes "/add"
-    → PostTable (λ r. Unasked × Unseen × (c ≡ Reply r)) (λ entry. (told : Told) × Tells entry told × ToldAnswers Unseen Gives Looks entry told c) most_entry b.head.method (map name_and_value b.head.fields) b.rest
-    → OpenDecides Unasked Tells Unseen Gives Looks b c
-open_rows Unasked Tells Unseen Gives Looks b c same rows = inr (same, rows)
+    → PostTable (λ r. Unasked × Unseen × (c ≡ Reply r)) (λ entry. (entry_status : EntryStatus) × Submits entry entry_status × StatusAnswers Unseen Gives Looks entry entry_status c) most_entry b.head.method (map name_and_value b.head.fields) b.rest
+    → OpenDecides Unasked Submits Unseen Gives Looks b c
+open_rows Unasked Submits Unseen Gives Looks b c same rows = inr (same, rows)
 
 -- what was handed in decides as the table does
-pub open_posted : (Looks : (Resource → Answer → Type 0) → ℕ → ℕ → ℕ → Answer → Type 0) (Tells : List ℕ → Told → Type 0) (Unasked Unseen : Type 0) (Gives : Resource → Answer → Type 0)
+pub open_posted : (Looks : (Resource → Answer → Type 0) → ℕ → ℕ → ℕ → Answer → Type 0) (Submits : List ℕ → EntryStatus → Type 0) (Unasked Unseen : Type 0) (Gives : Resource → Answer → Type 0)
     (i : Passage) (buf : List ℕ) (headers : List HeaderSpan) (len : ℕ) (spans : RequestSpans)
     (is : IsHeaded i buf headers len spans) (target : List ℕ) (posted : Posted) (rest : List ℕ) (course : Course)
     → target ≡ span_bytes (take len buf) spans.path → target ≡ codes "/add"
     → AsksPost 65535 (span_bytes (take len buf) spans.method) (map (header_bytes (take len buf)) (take spans.headers headers)) posted
-    → PostCourses Unasked Unseen (SomeTold Tells (λ told entry c. ToldAnswers Unseen Gives (Looks Gives) entry told c)) posted (take (length (take len buf) - spans.len) (drop spans.len (take len buf))) rest course
-    → OpenDecides Unasked Tells Unseen Gives (Looks Gives) (record { head = head_in i buf headers len spans is; rest = drop spans.len (take len buf) ++ rest }) course
-open_posted Looks Tells Unasked Unseen Gives i buf headers len spans is target posted rest course same_target add asks becomes =
+    → PostCourses Unasked Unseen (SomeStatus Submits (λ entry_status entry c. StatusAnswers Unseen Gives (Looks Gives) entry entry_status c)) posted (take (length (take len buf) - spans.len) (drop spans.len (take len buf))) rest course
+    → OpenDecides Unasked Submits Unseen Gives (Looks Gives) (record { head = head_in i buf headers len spans is; rest = drop spans.len (take len buf) ++ rest }) course
+open_posted Looks Submits Unasked Unseen Gives i buf headers len spans is target posted rest course same_target add asks becomes =
     let head = head_in i buf headers len spans is in
-    open_rows Unasked Tells Unseen Gives (Looks Gives) (record { head = head; rest = drop spans.len (take len buf) ++ rest }) course (sym (same_target ∙ is.of.1.path) ∙ add)
-    (head_posted (λ r. Unasked × Unseen × (course ≡ Reply r)) (λ entry. (told : Told) × Tells entry told × ToldAnswers Unseen Gives (Looks Gives) entry told course) most_entry i buf headers len spans is posted rest asks becomes)
+    open_rows Unasked Submits Unseen Gives (Looks Gives) (record { head = head; rest = drop spans.len (take len buf) ++ rest }) course (sym (same_target ∙ is.of.1.path) ∙ add)
+    (head_posted (λ r. Unasked × Unseen × (course ≡ Reply r)) (λ entry. (entry_status : EntryStatus) × Submits entry entry_status × StatusAnswers Unseen Gives (Looks Gives) entry entry_status course) most_entry i buf headers len spans is posted rest asks becomes)

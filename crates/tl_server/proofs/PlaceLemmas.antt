@@ -1,4 +1,4 @@
--- From looking for a bundle to what becomes of the entry that was told to be there.
+-- From looking for a bundle to what becomes of the entry that was reported to be there.
 use Rattle.std.proofs.Common.{◌≡◌, ℕ, ◌<◌, ◌/◌, List, refl, sym, subst, inl, inr, vec_items}
 use Rattle.tl_tile.specs.Needed.{bundle_width}
 use Rattle.tl_tile.specs.declared.resource.Resource.{Resource}

@@ -1,4 +1,4 @@
--- What a log that takes entries answers to a request. POST /add hands an entry in, and is answered with its index.
+-- What a log that takes entries answers to a request. POST /add submits an entry, and is answered with its index.
 use Rattle.std.specs.Prelude.{◌≡◌, ◌≢◌, ◌⊎◌, ℕ, ◌<◌, ◌≤◌, ◌/◌, ◌%◌, List, [], Bool, Some, codes, decimal, slice_get}
 use Rattle.tl_archive.specs.Shelves.{Held}
 use Rattle.tl_archive.specs.declared.fault.ShelfFault.{ShelfFault}
@@ -14,14 +14,14 @@ use Rattle.tl_server.specs.Answer.{Answer, bare, busy, not_allowed, plain_text, 
 use Rattle.tl_server.specs.Exchange.{Begun}
 use Rattle.tl_server.specs.Head.{IsSized, HasBody}
 use Rattle.tl_server.specs.Log.{ResourceAnswers, LooksUp, ReadsShelf}
-use Rattle.tl_server.specs.declared.adding.Told.{Told}
-use Rattle.tl_server.specs.declared.adding.Told.TheVariants as told
+use Rattle.tl_server.specs.declared.adding.EntryStatus.{EntryStatus}
+use Rattle.tl_server.specs.declared.adding.EntryStatus.TheVariants as entry_status
 
 -- what becomes of a request
 pub data Course : Type 0 where
   -- it is answered
   Reply : Answer → Course
-  -- it is answered with 500: what the pages show doesn't have its entry at the index that was told
+  -- it is answered with 500: the resources don't have its entry at the index that was reported
   Misplace : Course
   -- nothing is answered yet
   Postpone : Course
@@ -34,7 +34,7 @@ bundle_answer bytes = record { status = 200; allow = []; kind = octets; body = b
 abbrev pub index_answer : ℕ → Answer
 index_answer index = record { status = 200; allow = []; kind = plain_text; body = decimal index }
 
--- the pages gave a bundle in which the entry with this index is this one
+-- the resources gave a bundle in which the entry with this index is this one
 pub record HasAt (Gives : Resource → Answer → Type 0) (index : ℕ) (entry : Bytes) : Type 0 where
   pub width : ℕ
   pub entries : List Bytes
@@ -78,14 +78,14 @@ PlaceAnswers Unseen Gives Looks index size entry c =
     × (((a ≡ bare 500) × (c ≡ Reply (bare 500)))
     ⊎ (LacksEntry seen (index % 256) entry a × (c ≡ Misplace)))))
 
--- the same for what was told of an entry
-abbrev pub ToldAnswers
+-- the same for the status of an entry
+abbrev pub StatusAnswers
     : Type 0 → (Resource → Answer → Type 0) → (ℕ → ℕ → ℕ → Answer → Type 0)
-    → Bytes → Told → Course → Type 0
-ToldAnswers Unseen Gives Looks entry told.Later c = Unseen × (c ≡ Postpone)
-ToldAnswers Unseen Gives Looks entry told.Refused c = Unseen × (c ≡ Reply busy)
-ToldAnswers Unseen Gives Looks entry told.NoMemory c = Unseen × (c ≡ Reply (bare 500))
-ToldAnswers Unseen Gives Looks entry (told.At index size) c = PlaceAnswers Unseen Gives Looks index size entry c
+    → Bytes → EntryStatus → Course → Type 0
+StatusAnswers Unseen Gives Looks entry entry_status.Later c = Unseen × (c ≡ Postpone)
+StatusAnswers Unseen Gives Looks entry entry_status.Refused c = Unseen × (c ≡ Reply busy)
+StatusAnswers Unseen Gives Looks entry entry_status.NoMemory c = Unseen × (c ≡ Reply (bare 500))
+StatusAnswers Unseen Gives Looks entry (entry_status.At index size) c = PlaceAnswers Unseen Gives Looks index size entry c
 
 -- the table of a log that takes entries, of which the first row that applies decides:
 --     as of a log  the target isn't /add
@@ -94,20 +94,20 @@ ToldAnswers Unseen Gives Looks entry (told.At index size) c = PlaceAnswers Unsee
 --     413  it has more than 65,535 bytes
 --     500  it has some, and memory for them was refused
 --     400  the input ends before it
---     --   it is told that its place isn't known yet
---     503  it is told that the log takes nothing now, or hasn't published the entry in time
---     500  it is told that memory was refused
---     500  it is told an index that isn't below the size told with it: misplaced
---     200  it is told an index, and the pages gave a bundle that has the entry there
+--     --   its status: its index isn't known yet
+--     503  its status: the log takes nothing now, or hasn't published the entry in time
+--     500  its status: allocation failed
+--     500  its status: an index that isn't below the size reported with it: misplaced
+--     200  its status: an index, and the resources gave a bundle that has the entry there
 --     500  the bundle was looked for, and a GET of it is answered with 500
 --     500  the bundle was looked for, and what was given isn't the entry: misplaced
--- Unasked says that nobody was asked where an entry is, Tells that one call told this of an entry, Unseen that no page
--- was looked at, Gives what a GET of a page is answered with, Looks what looking for a bundle gave
+-- Unasked says that no entry was submitted, Submits that one call reported this status of an entry, Unseen that no
+-- resource was looked at, Gives what a GET of a resource is answered with, Looks what looking for a bundle gave
 abbrev pub OpenDecides
-    : Type 0 → (Bytes → Told → Type 0)
+    : Type 0 → (Bytes → EntryStatus → Type 0)
     → Type 0 → (Resource → Answer → Type 0) → (ℕ → ℕ → ℕ → Answer → Type 0)
     → Begun → Course → Type 0
-OpenDecides Unasked Tells Unseen Gives Looks b c =
+OpenDecides Unasked Submits Unseen Gives Looks b c =
     Unless (b.head.target ≡ codes "/add")
     (Unasked × ((a : Answer) × ResourceAnswers Unseen Gives b.head.method b.head.target a × (c ≡ Reply a)))
     (Unless (b.head.method ≡ codes "POST") (Unasked × Unseen × (c ≡ Reply (not_allowed (codes "POST"))))
@@ -115,18 +115,18 @@ OpenDecides Unasked Tells Unseen Gives Looks b c =
     Unless (n ≤ most_entry) (Unasked × Unseen × (c ≡ Reply (bare 413)))
     (((0 < n) × (Unasked × Unseen × (c ≡ Reply (bare 500))))
     ⊎ UnlessSome (HasBody b.rest n) (Unasked × Unseen × (c ≡ Reply (bare 400))) (λ entry.
-    (told : Told) × Tells entry told × ToldAnswers Unseen Gives Looks entry told c)))))
+    (entry_status : EntryStatus) × Submits entry entry_status × StatusAnswers Unseen Gives Looks entry entry_status c)))))
 
 -- the same over a board
-abbrev pub OpenLogDecides : Type 0 → Type 0 → (Bytes → Told → Type 0) → Past → Past → Begun → Course → Type 0
-OpenLogDecides A Unasked Tells old new =
-    OpenDecides Unasked Tells (new ≡ old) (LooksUp A old new) (LooksOnce (LooksUp A old new))
+abbrev pub OpenLogDecides : Type 0 → Type 0 → (Bytes → EntryStatus → Type 0) → Past → Past → Begun → Course → Type 0
+OpenLogDecides A Unasked Submits old new =
+    OpenDecides Unasked Submits (new ≡ old) (LooksUp A old new) (LooksOnce (LooksUp A old new))
 
 -- the same over a shelf
 abbrev pub OpenShelfDecides
-    : Type 0 → Type 0 → (Bytes → Told → Type 0)
+    : Type 0 → Type 0 → (Bytes → EntryStatus → Type 0)
     → Bool → Held → (Resource → ShelfFault → Type 0)
     → Begun → Course → Type 0
-OpenShelfDecides A Unasked Tells is_honest held MayFail =
-    OpenDecides Unasked Tells (Unit {0}) (ReadsShelf A is_honest held MayFail)
+OpenShelfDecides A Unasked Submits is_honest held MayFail =
+    OpenDecides Unasked Submits (Unit {0}) (ReadsShelf A is_honest held MayFail)
     (LooksTwice (ReadsShelf A is_honest held MayFail))

@@ -28,7 +28,7 @@ pub(crate) fn outcome_of(sent: Result<Option<u16>, ServeFault>) -> Result<Outcom
     }
 }
 
-/// Answers that an entry isn't where it was told to be.
+/// Answers that an entry isn't at the index that was reported.
 pub(crate) fn answer_misplaced<O: Write>(writer: &mut Counted<O>) -> Result<Outcome, ServeFault>
     ensures { Takes Misplace (passage O.contents writer.old writer.new) result }
 {
@@ -48,7 +48,7 @@ fn answer_index<O: Write>(writer: &mut Counted<O>, index: u64) -> Result<Outcome
     outcome_of(send(writer, 200, b"", b"text/plain; charset=utf-8", text))
 }
 
-/// Answers to an entry that was told to have this index, by what looking for its bundle gave.
+/// Answers to an entry that was reported to have this index, by what looking for its bundle gave.
 pub(crate) fn answer_looked<A: Allocator, O: Write>(
     writer: &mut Counted<O>,
     index: u64,

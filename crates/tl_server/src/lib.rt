@@ -10,10 +10,10 @@
 //!     Err(_) => {}           // a read or a write failed
 //! }
 //!
-//! match serve_open_log(alloc, &mut reader, &mut writer, &mut board, &mut teller) {
+//! match serve_open_log(alloc, &mut reader, &mut writer, &mut board, &mut queue) {
 //!     Ok(Outcome::Answered(status)) => {} // the same, or the index of an entry that the board has there
-//!     Ok(Outcome::Later) => {}            // its place isn't known yet: to be called again with the same bytes
-//!     Ok(Outcome::Misplaced) => {}        // the board doesn't have it where the teller said
+//!     Ok(Outcome::Later) => {}            // its index isn't known yet: call again with the same bytes
+//!     Ok(Outcome::Misplaced) => {}        // the board doesn't have it at the reported index
 //!     Ok(Outcome::Nothing) => {}
 //!     Err(_) => {}
 //! }
@@ -39,7 +39,7 @@ mod sending;
 mod shelf;
 mod witness;
 
-pub use adding::{Outcome, Teller, Told};
+pub use adding::{EntryStatus, Outcome, Submits};
 pub use fault::ServeFault;
 pub use log::serve_log;
 pub use open_log::serve_open_log;

@@ -4,11 +4,11 @@ ghost use Rattle.std.specs.Prelude.{◌≡◌};
 ghost use Rattle.tl_device.specs.Device.{passage};
 ghost use Rattle.tl_server.specs.Adding.{OpenLogDecides};
 ghost use Rattle.tl_server.specs.Inner.Deciding.{Rest};
-ghost use Rattle.tl_server.specs.Inner.Opening.{Concluded, SomeTold, ToldOnBoard};
+ghost use Rattle.tl_server.specs.Inner.Opening.{Concluded, SomeStatus, StatusOnBoard};
 ghost use Rattle.tl_server.specs.Inner.Posts.{PostCourses};
 ghost use Rattle.tl_server.specs.ServeOpen.{OpenExchange, ServesOpen};
 
-use crate::adding::{Outcome, Teller, Told};
+use crate::adding::{EntryStatus, Outcome, Submits};
 use crate::course::{answer_looked, answer_misplaced, outcome_of};
 use crate::fault::ServeFault;
 use crate::head::{HeadRead, MOST_FIELDS, MOST_HEAD, read_head};
@@ -28,22 +28,22 @@ use tl_tile::{LONGEST_ENTRY, bundle_width};
 /// The most bytes of an entry.
 pub(crate) const MOST_ENTRY: u64 = LONGEST_ENTRY as u64;
 
-// Answers to an entry of which this was told.
-fn answer_told<A: Allocator, B: Allocator, O: Write>(
+// Answers to an entry with this status.
+fn answer_status<A: Allocator, B: Allocator, O: Write>(
     alloc: A,
     writer: &mut Counted<O>,
     board: &mut BoardReader<B>,
-    told: Told,
+    entry_status: EntryStatus,
     entry: &[u8],
 ) -> Result<Outcome, ServeFault>
-    ensures { Concluded (ToldOnBoard A board.old board.new told entry.now)
+    ensures { Concluded (StatusOnBoard A board.old board.new entry_status entry.now)
         (passage O.contents writer.old writer.new) result }
 {
-    let (index, size) = match told {
-        Told::Later => return Ok(Outcome::Later),
-        Told::Refused => return outcome_of(refuse_busy(writer)),
-        Told::NoMemory => return outcome_of(refuse(writer, 500)),
-        Told::At { index, size } => (index, size),
+    let (index, size) = match entry_status {
+        EntryStatus::Later => return Ok(Outcome::Later),
+        EntryStatus::Refused => return outcome_of(refuse_busy(writer)),
+        EntryStatus::NoMemory => return outcome_of(refuse(writer, 500)),
+        EntryStatus::At { index, size } => (index, size),
     };
     if index >= size {
         return answer_misplaced(writer);
@@ -54,19 +54,19 @@ fn answer_told<A: Allocator, B: Allocator, O: Write>(
     answer_looked(writer, index, entry, looked)
 }
 
-// Takes an entry in, of which a head says so much. Some of what follows was read with the head.
-fn answer_posted<A: Allocator + Copy, B: Allocator, T: Teller, I: Read, O: Write>(
+// Receives the body that a head announces, and submits the entry. Some of the body was read with the head.
+fn answer_posted<A: Allocator + Copy, B: Allocator, T: Submits, I: Read, O: Write>(
     alloc: A,
     reader: &mut Counted<I>,
     writer: &mut Counted<O>,
     board: &mut BoardReader<B>,
-    teller: &mut T,
+    queue: &mut T,
     posted: Posted,
     part: &[u8],
 ) -> Result<Outcome, ServeFault>
-    ensures { ServesOpen ((teller.new ≡ teller.old) × (board.new ≡ board.old))
-        (Rest (PostCourses (teller.new ≡ teller.old) (board.new ≡ board.old) (SomeTold
-        (T.tells teller.old teller.new) (ToldOnBoard A board.old board.new)) posted part.now))
+    ensures { ServesOpen ((queue.new ≡ queue.old) × (board.new ≡ board.old))
+        (Rest (PostCourses (queue.new ≡ queue.old) (board.new ≡ board.old) (SomeStatus
+        (T.submits queue.old queue.new) (StatusOnBoard A board.old board.new)) posted part.now))
         (passage I.remaining reader.old reader.new)
         (passage O.contents writer.old writer.new) result }
 {
@@ -75,27 +75,26 @@ fn answer_posted<A: Allocator + Copy, B: Allocator, T: Teller, I: Read, O: Write
         Received::Refused(status) => outcome_of(refuse_post(writer, status)),
         Received::Whole(body) => {
             let entry = body.as_slice();
-            let told = teller.tell(entry);
-            answer_told(alloc, writer, board, told, entry)
+            let entry_status = queue.submit(entry);
+            answer_status(alloc, writer, board, entry_status, entry)
         }
     }
 }
 
 /// Answers one request to a log that takes entries: as `serve_log`, and `POST /add` with the index of the entry in its
-/// body, where the board has it there: 405 for another method, 400 without one `Content-Length` (RFC 9112, section 6),
-/// 413 above 65,535 bytes, 400 where the input ends before them, 503 where it isn't published, 500 where memory was
-/// refused or the entry isn't there. Where its place isn't known yet nothing is written: call again with the same
-/// bytes.
-pub fn serve_open_log<A: Allocator + Copy, B: Allocator, T: Teller, I: Read, O: Write>(
+/// body, if the board has it there: 405 for another method, 400 without one `Content-Length` (RFC 9112, section 6),
+/// 413 above 65,535 bytes, 400 if the input ends before them, 503 if it isn't published, 500 if allocation fails or the
+/// entry isn't there. If its index isn't known yet nothing is written: call again with the same bytes.
+pub fn serve_open_log<A: Allocator + Copy, B: Allocator, T: Submits, I: Read, O: Write>(
     alloc: A,
     reader: &mut Counted<I>,
     writer: &mut Counted<O>,
     board: &mut BoardReader<B>,
-    teller: &mut T,
+    queue: &mut T,
 ) -> Result<Outcome, ServeFault>
-    ensures { ServesOpen ((teller.new ≡ teller.old) × (board.new ≡ board.old))
-        (OpenExchange ((teller.new ≡ teller.old) × (board.new ≡ board.old))
-        (OpenLogDecides A (teller.new ≡ teller.old) (T.tells teller.old teller.new)
+    ensures { ServesOpen ((queue.new ≡ queue.old) × (board.new ≡ board.old))
+        (OpenExchange ((queue.new ≡ queue.old) × (board.new ≡ board.old))
+        (OpenLogDecides A (queue.new ≡ queue.old) (T.submits queue.old queue.new)
         board.old board.new))
         (passage I.remaining reader.old reader.new)
         (passage O.contents writer.old writer.new) result }
@@ -114,7 +113,7 @@ pub fn serve_open_log<A: Allocator + Copy, B: Allocator, T: Teller, I: Read, O: 
             }
             let posted = posted_of(bytes, &headers, spans, MOST_ENTRY);
             let part = &bytes[spans.len..];
-            answer_posted(alloc, reader, writer, board, teller, posted, part)
+            answer_posted(alloc, reader, writer, board, queue, posted, part)
         }
     }
 }

@@ -4,11 +4,11 @@ ghost use Rattle.std.specs.Prelude.{◌≡◌};
 ghost use Rattle.tl_device.specs.Device.{passage};
 ghost use Rattle.tl_server.specs.Adding.{OpenShelfDecides};
 ghost use Rattle.tl_server.specs.Inner.Deciding.{Rest};
-ghost use Rattle.tl_server.specs.Inner.Opening.{Concluded, SomeTold, ToldOnShelf};
+ghost use Rattle.tl_server.specs.Inner.Opening.{Concluded, SomeStatus, StatusOnShelf};
 ghost use Rattle.tl_server.specs.Inner.Posts.{PostCourses};
 ghost use Rattle.tl_server.specs.ServeOpen.{OpenExchange, ServesOpen};
 
-use crate::adding::{Outcome, Teller, Told};
+use crate::adding::{EntryStatus, Outcome, Submits};
 use crate::course::{answer_looked, answer_misplaced, outcome_of};
 use crate::fault::ServeFault;
 use crate::head::{HeadRead, MOST_FIELDS, MOST_HEAD, read_head};
@@ -26,22 +26,22 @@ use tl_archive::Shelf;
 use tl_device::Counted;
 use tl_tile::bundle_width;
 
-// Answers to an entry of which this was told.
-fn answer_told<A: Allocator + Copy, S: Shelf, O: Write>(
+// Answers to an entry with this status.
+fn answer_status<A: Allocator + Copy, S: Shelf, O: Write>(
     alloc: A,
     writer: &mut Counted<O>,
     shelf: &S,
-    told: Told,
+    entry_status: EntryStatus,
     entry: &[u8],
 ) -> Result<Outcome, ServeFault>
-    ensures { Concluded (ToldOnShelf A S.is_honest (S.kept shelf.now).held (S.may_fail shelf.now)
-        told entry.now) (passage O.contents writer.old writer.new) result }
+    ensures { Concluded (StatusOnShelf A S.is_honest (S.kept shelf.now).held (S.may_fail shelf.now)
+        entry_status entry.now) (passage O.contents writer.old writer.new) result }
 {
-    let (index, size) = match told {
-        Told::Later => return Ok(Outcome::Later),
-        Told::Refused => return outcome_of(refuse_busy(writer)),
-        Told::NoMemory => return outcome_of(refuse(writer, 500)),
-        Told::At { index, size } => (index, size),
+    let (index, size) = match entry_status {
+        EntryStatus::Later => return Ok(Outcome::Later),
+        EntryStatus::Refused => return outcome_of(refuse_busy(writer)),
+        EntryStatus::NoMemory => return outcome_of(refuse(writer, 500)),
+        EntryStatus::At { index, size } => (index, size),
     };
     if index >= size {
         return answer_misplaced(writer);
@@ -52,19 +52,19 @@ fn answer_told<A: Allocator + Copy, S: Shelf, O: Write>(
     answer_looked(writer, index, entry, looked)
 }
 
-// Takes an entry in, of which a head says so much. Some of what follows was read with the head.
-fn answer_posted<A: Allocator + Copy, S: Shelf, T: Teller, I: Read, O: Write>(
+// Receives the body that a head announces, and submits the entry. Some of the body was read with the head.
+fn answer_posted<A: Allocator + Copy, S: Shelf, T: Submits, I: Read, O: Write>(
     alloc: A,
     reader: &mut Counted<I>,
     writer: &mut Counted<O>,
     shelf: &S,
-    teller: &mut T,
+    queue: &mut T,
     posted: Posted,
     part: &[u8],
 ) -> Result<Outcome, ServeFault>
-    ensures { ServesOpen (teller.new ≡ teller.old)
-        (Rest (PostCourses (teller.new ≡ teller.old) (Unit {0}) (SomeTold
-        (T.tells teller.old teller.new) (ToldOnShelf A S.is_honest (S.kept shelf.now).held
+    ensures { ServesOpen (queue.new ≡ queue.old)
+        (Rest (PostCourses (queue.new ≡ queue.old) (Unit {0}) (SomeStatus
+        (T.submits queue.old queue.new) (StatusOnShelf A S.is_honest (S.kept shelf.now).held
         (S.may_fail shelf.now))) posted part.now))
         (passage I.remaining reader.old reader.new)
         (passage O.contents writer.old writer.new) result }
@@ -74,25 +74,25 @@ fn answer_posted<A: Allocator + Copy, S: Shelf, T: Teller, I: Read, O: Write>(
         Received::Refused(status) => outcome_of(refuse_post(writer, status)),
         Received::Whole(body) => {
             let entry = body.as_slice();
-            let told = teller.tell(entry);
-            answer_told(alloc, writer, shelf, told, entry)
+            let entry_status = queue.submit(entry);
+            answer_status(alloc, writer, shelf, entry_status, entry)
         }
     }
 }
 
 /// Answers one request to a log that takes entries, with what is on a shelf: `POST /add` as `serve_open_log`, and any
-/// other target as `serve_shelf`. A shelf may have the full bundle in place of the one that the size tells: it is read
-/// where that one isn't there.
-pub fn serve_open_shelf<A: Allocator + Copy, S: Shelf, T: Teller, I: Read, O: Write>(
+/// other target as `serve_shelf`. A shelf may have the full bundle in place of the one for the size: it is read if
+/// that one isn't there.
+pub fn serve_open_shelf<A: Allocator + Copy, S: Shelf, T: Submits, I: Read, O: Write>(
     alloc: A,
     reader: &mut Counted<I>,
     writer: &mut Counted<O>,
     shelf: &S,
-    teller: &mut T,
+    queue: &mut T,
 ) -> Result<Outcome, ServeFault>
-    ensures { ServesOpen (teller.new ≡ teller.old)
-        (OpenExchange (teller.new ≡ teller.old) (OpenShelfDecides A (teller.new ≡ teller.old)
-        (T.tells teller.old teller.new) S.is_honest (S.kept shelf.now).held (S.may_fail shelf.now)))
+    ensures { ServesOpen (queue.new ≡ queue.old)
+        (OpenExchange (queue.new ≡ queue.old) (OpenShelfDecides A (queue.new ≡ queue.old)
+        (T.submits queue.old queue.new) S.is_honest (S.kept shelf.now).held (S.may_fail shelf.now)))
         (passage I.remaining reader.old reader.new)
         (passage O.contents writer.old writer.new) result }
 {
@@ -110,7 +110,7 @@ pub fn serve_open_shelf<A: Allocator + Copy, S: Shelf, T: Teller, I: Read, O: Wr
             }
             let posted = posted_of(bytes, &headers, spans, MOST_ENTRY);
             let part = &bytes[spans.len..];
-            answer_posted(alloc, reader, writer, shelf, teller, posted, part)
+            answer_posted(alloc, reader, writer, shelf, queue, posted, part)
         }
     }
 }

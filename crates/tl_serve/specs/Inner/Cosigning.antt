@@ -1,4 +1,4 @@
--- The key that a witness cosigns by.
+-- The key that a witness cosigns with.
 use Rattle.tl_note.specs.Key.{SigningKey}
 use Rattle.tl_key.specs.DemoKey.{demo_signing_key}
 use Rattle.tl_key.specs.NoteKey.{signer_key}

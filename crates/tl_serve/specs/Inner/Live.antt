@@ -1,4 +1,4 @@
--- What the calls of a log that runs answer, by what its lanes and its publications are.
+-- What the calls of a running log return, by what its lanes and its publications are.
 use Rattle.std.specs.Prelude.{◌≡◌, ℕ, ◌≤◌, Bool, true, false, Option, Some, None, Result, Ok, Err, length}
 use Rattle.tl_command.specs.declared.fault.RunFault.{RunFault}
 use Rattle.tl_command.specs.declared.fault.RunFault.TheVariants as run
@@ -24,12 +24,13 @@ IsAfterPublish publish.OutOfMemory told = told ≡ run.OutOfMemory
 IsAfterPublish (publish.Sign place) told = told ≡ run.Sign
 IsAfterPublish publish.Quorum told = told ≡ run.Operator
 
--- so many more entries of the lane stand at the end of the log, at most so many; or nothing was taken
+-- this many more entries of the lane stand at the end of the log, at most as many as were asked for; or nothing was
+-- taken
 abbrev pub TakesIn : {A : Type 0} → ℕ → ℕ → Log A → Log A → Result ℕ RunFault → Type 0
 TakesIn lane most a b (Ok n) = (n ≤ most) × Takes lane n a b
 TakesIn lane most a b (Err told) = (b ≡ a) × ((why : TakeFault) × TakeRefuses a lane most why × (told ≡ after_take why))
 
--- all that was left of the lane of an end, so many entries, stands there; or nothing was taken
+-- all that was left of the lane of an end, this many entries, stands there; or nothing was taken
 abbrev pub TakesRest : {A : Type 0} → End A → Log A → Log A → Result ℕ RunFault → Type 0
 TakesRest end a b (Ok n) = Closes end n a b
 TakesRest end a b (Err told) = (b ≡ a) × ((why : TakeFault) × EndRefuses a end why × (told ≡ after_take why))
@@ -46,7 +47,7 @@ ShowsNew a b (Ok true) = (p : Past) × Shows a b (Ok (Some p))
 ShowsNew a b (Ok false) = Shows a b (Ok None)
 ShowsNew a b (Err told) = Shows a b (Err told)
 
--- the log is complete, and has so many entries; or the end of a lane wasn't taken in
+-- the log is complete, and has this many entries; or the end of a lane wasn't taken in
 abbrev pub Finishes : {A : Type 0} → Log A → Result ℕ RunFault → Type 0
 Finishes log (Ok n) = IsComplete log × (n ≡ length (entries_of log))
 Finishes log (Err told) = (told ≡ run.Operator) × ((lane : ℕ) × IsFirstOpen log lane)

@@ -1,4 +1,4 @@
--- Lines that wait for a writer: what who waits for one is to do.
+-- Lines that wait for a writer: what a thread that waits for one is to do.
 use Rattle.std.specs.Prelude.{◌≡◌, ℕ, true, false, [], Some, slice_get}
 use Rattle.tl_serve.specs.declared.queue.Waiting.{Waiting}
 use Rattle.tl_serve.specs.declared.queue.Kept.{Kept}
@@ -6,7 +6,7 @@ use Rattle.tl_serve.specs.declared.queue.Step.{Step}
 use Rattle.tl_serve.specs.declared.queue.Step.TheVariants.{Fetch, Fail, Write}
 
 -- it fetches the link that was written for its ticket; or it fails, since a write has; or it writes all lines that
--- wait, and those that come wait for the next who writes
+-- wait, and those that come later wait for the next thread that writes
 abbrev pub Steps : ℕ → Waiting → Waiting → Step → Type 0
 Steps ticket old new (Fetch link) =
     (kept : Kept) × (place : ℕ) × (slice_get old.kept.items place ≡ Some kept) × (kept.ticket ≡ ticket) × (kept.link ≡ link) × (new.batch ≡ old.batch)

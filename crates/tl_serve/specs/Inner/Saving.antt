@@ -9,6 +9,6 @@ use Rattle.tl_witness.specs.ChainLine.{ChainLine, chain_line}
 abbrev pub link_of : Bytes × Step → ChainLine
 link_of l = record { origin = l.0; step = l.1 }
 
--- the lines of links, one after the other
+-- the lines of links, one after another
 abbrev pub link_lines : List (Bytes × Step) → Bytes
 link_lines links = flat_map (λ l. chain_line (link_of l)) links

@@ -1,4 +1,4 @@
--- A log on a shelf that runs: what came of its lanes is put behind what the shelf had.
+-- A running log on a shelf: what came of its lanes is put behind what the shelf had.
 use Rattle.std.specs.Prelude.{◌≡◌, ◌⊎◌, Bool, true, false, List, [], ◌∷◌, ◌++◌, Option, Some, None, Result, Ok, Err}
 use Rattle.sha2.specs.Sha256.{sha256}
 use Rattle.tl_hash.specs.Bytes.{Bytes}
@@ -18,8 +18,8 @@ use Rattle.tl_append.specs.Cosigning.{Quorum, ShowsAtMost, ShowsBatch, ShowsThen
 use Rattle.tl_append.specs.Running.{Visit}
 use Rattle.tl_serve.specs.Serving.{IsLeft, ServesPart, ServesWhole}
 
--- since it began, what was let go of what its lanes gave was appended in turns, each shown under the log's key with its
--- quorum, and then put behind the log; where no publication is due all is shown, and nothing waits
+-- since it began, what was drained of what its lanes gave was appended in turns, each shown under the log's key with
+-- its quorum, and then put behind the log; if no publication is due all is shown, and nothing waits
 pub record IsServing {A : Type 0} (key : LogKey) (q : Quorum) (c : Course) (intake : Intake A) (is_due : Bool) : Type 0 where
   pub named : IsKeyName key.name
   pub turns : List Turn
@@ -29,7 +29,7 @@ pub record IsServing {A : Type 0} (key : LogKey) (q : Quorum) (c : Course) (inta
   pub all : is_due ≡ false → rest ≡ []
   pub none : is_due ≡ false → intake.waiting ≡ []
 
--- what waited is published, and let go; or nothing was due; or it was published, put, or left, as the shelf failed
+-- what waited is published, and drained; or nothing was due; or it was published, put, or left, as the shelf failed
 abbrev pub Seals : {A : Type 0} → LogKey → Quorum → Course → Intake A → Intake A → Result Bool RunFault → Type 0
 Seals key q c a b (Ok true) = ShowsBatch key q a.waiting c × (b.drained ≡ a.log.taken) × (b.log ≡ a.log)
 Seals key q c a b (Ok false) = (a.waiting ≡ []) × (b ≡ a) × (c.is ≡ c.was) × (c.after ≡ c.before) × (c.sees ≡ c.saw)

@@ -16,13 +16,14 @@ use Rattle.tl_command.specs.declared.fault.RunFault.TheVariants.{Chain, OutOfMem
 use Rattle.tl_command.specs.Run.{ReadingFails, most_input}
 use Rattle.tl_serve.specs.Knowing.{by_state}
 
--- the chains say of each origin in one step what the state says that was read, of the origins of these logs or of all
+-- for each origin the chains say in one step what the state says that was read, of the origins of these logs or of
+-- all
 pub record HaveState (H : Digest) (logs : Option (List Log)) (p : Passage) (chains : List SavedChain) : Type 0 where
   pub heads : List OriginHead
   pub known : KnowsHeads H (of_logs logs) p heads
   pub same : chains ≡ map in_one_step heads
 
--- they don't, for the reason for which the state isn't read, or for want of memory
+-- they don't, for the reason that the state can't be read, or since memory ran out
 abbrev pub LackState : Digest → Option (List Log) → Passage → RunFault → Type 0
 LackState H logs p fault = (fault ≡ OutOfMemory) ⊎ ((why : StateFault) × (fault ≡ by_state why) × RefusesState H logs p why)
 
@@ -34,7 +35,7 @@ pub record HaveLines (p : Passage) (saved : List SavedChain) : Type 0 where
   pub whole : ReadWhole p most_input input
   pub chains : AreChainsOf input saved
 
--- all that the reader gives is no lines of links, the line at this place being the first that is none
+-- what the reader gives isn't lines of links, and the line at this place is the first that is none
 pub record LackLine (p : Passage) (place : ℕ) : Type 0 where
   pub input : Bytes
   pub whole : ReadWhole p most_input input

@@ -6,12 +6,12 @@ use Rattle.tl_device.specs.Device.{Passage}
 use Rattle.tl_hash.specs.Bytes.{Bytes}
 use Rattle.tl_publisher.specs.Histories.{Past}
 use Rattle.tl_tile.specs.declared.resource.Resource.{Resource}
-use Rattle.tl_server.specs.Adding.{Course, ToldAnswers, LooksOnce, LooksTwice}
+use Rattle.tl_server.specs.Adding.{Course, StatusAnswers, LooksOnce, LooksTwice}
 use Rattle.tl_server.specs.Log.{LooksUp, ReadsShelf}
 use Rattle.tl_server.specs.ServeOpen.{Takes}
 use Rattle.tl_server.specs.declared.adding.Outcome.{Outcome}
 use Rattle.tl_server.specs.declared.adding.Outcome.TheVariants.{Nothing, Answered}
-use Rattle.tl_server.specs.declared.adding.Told.{Told}
+use Rattle.tl_server.specs.declared.adding.EntryStatus.{EntryStatus}
 use Rattle.tl_server.specs.declared.fault.ServeFault.{ServeFault}
 
 -- what comes of sending an answer
@@ -26,15 +26,15 @@ pub record Concluded (Courses : Course → Type 0) (o : Passage) (result : Resul
   pub decided : Courses course
   pub takes : Takes course o result
 
--- what becomes of an entry of which this was told, over a board
-abbrev pub ToldOnBoard : Type 0 → Past → Past → Told → Bytes → Course → Type 0
-ToldOnBoard A old new told entry c = ToldAnswers (new ≡ old) (LooksUp A old new) (LooksOnce (LooksUp A old new)) entry told c
+-- what becomes of an entry with this status, over a board
+abbrev pub StatusOnBoard : Type 0 → Past → Past → EntryStatus → Bytes → Course → Type 0
+StatusOnBoard A old new entry_status entry c = StatusAnswers (new ≡ old) (LooksUp A old new) (LooksOnce (LooksUp A old new)) entry entry_status c
 
 -- the same over a shelf
-abbrev pub ToldOnShelf : Type 0 → Bool → Held → (Resource → ShelfFault → Type 0) → Told → Bytes → Course → Type 0
-ToldOnShelf A is_honest held MayFail told entry c =
-    ToldAnswers (Unit {0}) (ReadsShelf A is_honest held MayFail) (LooksTwice (ReadsShelf A is_honest held MayFail)) entry told c
+abbrev pub StatusOnShelf : Type 0 → Bool → Held → (Resource → ShelfFault → Type 0) → EntryStatus → Bytes → Course → Type 0
+StatusOnShelf A is_honest held MayFail entry_status entry c =
+    StatusAnswers (Unit {0}) (ReadsShelf A is_honest held MayFail) (LooksTwice (ReadsShelf A is_honest held MayFail)) entry entry_status c
 
--- the same of what was told
-abbrev pub SomeTold : (Bytes → Told → Type 0) → (Told → Bytes → Course → Type 0) → Bytes → Course → Type 0
-SomeTold Tells Becomes entry c = (told : Told) × Tells entry told × Becomes told entry c
+-- the same for some status that was reported
+abbrev pub SomeStatus : (Bytes → EntryStatus → Type 0) → (EntryStatus → Bytes → Course → Type 0) → Bytes → Course → Type 0
+SomeStatus Submits Becomes entry c = (entry_status : EntryStatus) × Submits entry entry_status × Becomes entry_status entry c

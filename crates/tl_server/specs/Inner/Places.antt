@@ -1,4 +1,4 @@
--- The steps of finding an entry where it was told to be.
+-- The steps of finding an entry at the index that was reported.
 use Rattle.std.specs.Prelude.{◌≡◌, ◌⊎◌, ℕ, ◌%◌, List, Option, Some, None, slice_get, vec_items}
 use Rattle.tl_hash.specs.Bytes.{Bytes}
 use Rattle.tl_tile.specs.Bundle.{bundle_text, AreEntries, IsBundle}
@@ -32,7 +32,7 @@ IsLooked Looks looked.Failed = (seen : ℕ) × Looks seen (bare 500)
 IsLooked Looks looked.Nothing = (seen : ℕ) × Looks seen (bare 404)
 IsLooked Looks (looked.Bytes bytes seen) = Looks seen (bundle_answer (vec_items bytes))
 
--- what becomes of an entry that was told to have this index
+-- what becomes of an entry that was reported to have this index
 abbrev pub LookedCourse : {A : Type 0} → ℕ → Bytes → Looked A → Course → Type 0
 LookedCourse index entry looked.Failed c = c ≡ Reply (bare 500)
 LookedCourse index entry looked.Nothing c = c ≡ Misplace

@@ -5,7 +5,8 @@ use Rattle.tl_serve.specs.Inner.Running.{StaysRunning}
 use Rattle.tl_serve.proofs.InTurn.{IsOnward}
 use Rattle.tl_serve.proofs.running.take_ends.Given as goal
 
--- what holds of it holds, its lanes stay, the ends that are left are its own, and those before them gave so many
+-- what holds of it holds, its lanes stay, the ends that are left are its own, and those before them gave this many
+-- entries
 abbrev pub invariant-loop-ended : goal.invariant-loop-ended
 invariant-loop-ended g l =
     StaysRunning g.O.LiveLog.holds g.O.LiveLog.log g.O.LiveLog.begun l.fn.log l.log

@@ -5,7 +5,7 @@ use Rattle.tl_serve.specs.Inner.Running.{StaysRunning}
 use Rattle.tl_serve.proofs.InTurn.{IsOnward}
 use Rattle.tl_serve.proofs.running.take_round.Given as goal
 
--- what holds of it holds, and its lanes stay; and the lanes before this one gave so many
+-- what holds of it holds, and its lanes stay; and the lanes before this one gave this many entries
 abbrev pub invariant-loop-lane : goal.invariant-loop-lane
 invariant-loop-lane g l =
     StaysRunning g.O.LiveLog.holds g.O.LiveLog.log g.O.LiveLog.begun l.fn.log l.log

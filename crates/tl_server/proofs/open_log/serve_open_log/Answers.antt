@@ -12,7 +12,7 @@ returns-in-NoHead g c =
 
 pub returns-then-not-is_text : goal.returns-then-not-is_text
 returns-then-not-is_text g c =
-    other_page LooksOnce (g.T.Teller.tells _ _) _ _ _ _ _ _ c.read_head.new.buf c.read_head.new.headers c.in-Head.len c.in-Head.spans _ _ c.answer_log.result c.outcome_of-then-not-is_text.result c.in-Head.ensures
+    other_page LooksOnce (g.T.Submits.submits _ _) _ _ _ _ _ _ c.read_head.new.buf c.read_head.new.headers c.in-Head.len c.in-Head.spans _ _ c.answer_log.result c.outcome_of-then-not-is_text.result c.in-Head.ensures
     c.of-method.ensures c.of-target.ensures (search rules) refl c.answer_log.ensures c.outcome_of-then-not-is_text.ensures
 
 pub returns-else-not-is_text : goal.returns-else-not-is_text
@@ -22,7 +22,7 @@ returns-else-not-is_text g c =
     let len = c.in-Head.len in
     let spans = c.in-Head.spans in
     open_after _ _ _ _ _ _ _ _ _ _ buf headers len spans c.answer_posted.result c.in-Head.ensures
-    (λ rest course is. open_posted LooksOnce (g.T.Teller.tells _ _) _ _ _ _ buf headers len spans c.in-Head.ensures _ c.posted_of-posted.result rest course c.of-target.ensures (search rules) c.posted_of-posted.ensures is)
+    (λ rest course is. open_posted LooksOnce (g.T.Submits.submits _ _) _ _ _ _ buf headers len spans c.in-Head.ensures _ c.posted_of-posted.result rest course c.of-target.ensures (search rules) c.posted_of-posted.ensures is)
     c.answer_posted.ensures
 
 pub posted_of-posted-requires-clause-within : goal.posted_of-posted-requires-clause-within

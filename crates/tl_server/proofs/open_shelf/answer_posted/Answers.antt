@@ -1,6 +1,6 @@
 use Rattle.std.proofs.Common.{◌++◌, false, refl}
 use Rattle.tl_server.specs.Adding.{Reply}
-use Rattle.tl_server.specs.Inner.Opening.{ToldOnShelf}
+use Rattle.tl_server.specs.Inner.Opening.{StatusOnShelf}
 use Rattle.tl_server.specs.Inner.Sending.{refusal}
 use Rattle.tl_server.proofs.OpenLemmas.{received_course, refused_course, rest_open, sent_takes}
 use Rattle.tl_server.proofs.open_shelf.answer_posted.Goals as goal
@@ -16,6 +16,6 @@ returns-in-Refused g c =
 pub returns-in-Whole : goal.returns-in-Whole
 returns-in-Whole g c =
     let is = c.in-Whole.ensures in
-    let done = c.answer_told.ensures in
-    rest_open _ _ _ _ is.read.bytes false done.course c.answer_told.result is.read.gave
-    (λ rest may. received_course _ _ (g.T.Teller.tells c.args.teller.now c.tell-told.new.self) (ToldOnShelf _ _ _ _) _ c.args.posted c.args.part.now _ _ rest c.tell-told.result done.course is c.as_slice-entry.ensures.value may c.tell-told.ensures done.decided) done.takes
+    let done = c.answer_status.ensures in
+    rest_open _ _ _ _ is.read.bytes false done.course c.answer_status.result is.read.gave
+    (λ rest may. received_course _ _ (g.T.Submits.submits c.args.queue.now c.submit-entry_status.new.self) (StatusOnShelf _ _ _ _) _ c.args.posted c.args.part.now _ _ rest c.submit-entry_status.result done.course is c.as_slice-entry.ensures.value may c.submit-entry_status.ensures done.decided) done.takes

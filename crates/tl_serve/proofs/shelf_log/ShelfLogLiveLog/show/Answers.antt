@@ -14,18 +14,18 @@ pub returns-in-Ok-clause-kept : goal.returns-in-Ok-clause-kept
 returns-in-Ok-clause-kept g c = record {
   holds =
       subst (λ (q : Quorum). IsServing (log_key_of c.args.self.now.key) q
-      (along (g.S.LogShelf.kept c.args.self.now.began.value) (g.S.LogShelf.kept c.append-outcome.new.self) (g.S.LogShelf.trace c.args.self.now.began.value) (g.S.LogShelf.trace c.append-outcome.new.self) c.args.self.now.was.value c.append-outcome.new.ledger) c.let_go.new.intake false)
+      (along (g.S.LogShelf.kept c.args.self.now.began.value) (g.S.LogShelf.kept c.append-outcome.new.self) (g.S.LogShelf.trace c.args.self.now.began.value) (g.S.LogShelf.trace c.append-outcome.new.self) c.args.self.now.was.value c.append-outcome.new.ledger) c.drain_if_grown.new.intake false)
       (sym c.append-outcome.ensures.quorum)
       (serving_shown (log_key_of c.args.self.now.key) (g.S.LogShelf.quorum c.args.self.now.shelf) (g.S.LogShelf.kept c.args.self.now.began.value) (g.S.LogShelf.kept c.args.self.now.shelf) (g.S.LogShelf.kept c.append-outcome.new.self)
       (g.S.LogShelf.trace c.args.self.now.began.value) (g.S.LogShelf.trace c.args.self.now.shelf) (g.S.LogShelf.trace c.append-outcome.new.self)
-      c.args.self.now.was.value c.args.self.now.ledger c.append-outcome.new.ledger c.args.self.now.intake c.let_go.new.intake c.args.self.now.is_due
+      c.args.self.now.was.value c.args.self.now.ledger c.append-outcome.new.ledger c.args.self.now.intake c.drain_if_grown.new.intake c.args.self.now.is_due
       c.size-size.result c.size.result c.requires
-      (record { parts = c.waiting-waiting.ensures.parts; old = c.size-size.ensures; new = c.size.ensures; gone = c.let_go.ensures.gone; left = c.let_go.ensures.left })
+      (record { parts = c.waiting-waiting.ensures.parts; old = c.size-size.ensures; new = c.size.ensures; gone = c.drain_if_grown.ensures.gone; left = c.drain_if_grown.ensures.left })
       (omega (arith, c.in-Ok.ensures.sized, length-map c.waiting-waiting.result.now vec_items, ap length c.waiting-waiting.ensures.waiting))
       (subst (λ (w : List Bytes). ShowsBatch (log_key_of c.args.self.now.key) (g.S.LogShelf.quorum c.args.self.now.shelf) w
       (along (g.S.LogShelf.kept c.args.self.now.shelf) (g.S.LogShelf.kept c.append-outcome.new.self) (g.S.LogShelf.trace c.args.self.now.shelf) (g.S.LogShelf.trace c.append-outcome.new.self) c.args.self.now.ledger c.append-outcome.new.ledger))
       c.waiting-waiting.ensures.waiting c.in-Ok.ensures.all));
-  rings = ap rings_of c.let_go.ensures.log;
+  rings = ap rings_of c.drain_if_grown.ensures.log;
   begun =
       ap (λ (p : Bytes). Some (record {
         key = log_key_of c.args.self.now.key;
@@ -49,18 +49,18 @@ pub returns-in-Err-clause-kept : goal.returns-in-Err-clause-kept
 returns-in-Err-clause-kept g c = record {
   holds =
       subst (λ (q : Quorum). IsServing (log_key_of c.args.self.now.key) q
-      (along (g.S.LogShelf.kept c.args.self.now.began.value) (g.S.LogShelf.kept c.append-outcome.new.self) (g.S.LogShelf.trace c.args.self.now.began.value) (g.S.LogShelf.trace c.append-outcome.new.self) c.args.self.now.was.value c.append-outcome.new.ledger) c.let_go.new.intake c.args.self.now.is_due)
+      (along (g.S.LogShelf.kept c.args.self.now.began.value) (g.S.LogShelf.kept c.append-outcome.new.self) (g.S.LogShelf.trace c.args.self.now.began.value) (g.S.LogShelf.trace c.append-outcome.new.self) c.args.self.now.was.value c.append-outcome.new.ledger) c.drain_if_grown.new.intake c.args.self.now.is_due)
       (sym c.append-outcome.ensures.quorum)
       (serving_failed (log_key_of c.args.self.now.key) (g.S.LogShelf.quorum c.args.self.now.shelf) (g.S.LogShelf.kept c.args.self.now.began.value) (g.S.LogShelf.kept c.args.self.now.shelf) (g.S.LogShelf.kept c.append-outcome.new.self)
       (g.S.LogShelf.trace c.args.self.now.began.value) (g.S.LogShelf.trace c.args.self.now.shelf) (g.S.LogShelf.trace c.append-outcome.new.self)
-      c.args.self.now.was.value c.args.self.now.ledger c.append-outcome.new.ledger c.args.self.now.intake c.let_go.new.intake c.args.self.now.is_due
+      c.args.self.now.was.value c.args.self.now.ledger c.append-outcome.new.ledger c.args.self.now.intake c.drain_if_grown.new.intake c.args.self.now.is_due
       c.size-size.result c.size.result c.requires
-      (record { parts = c.waiting-waiting.ensures.parts; old = c.size-size.ensures; new = c.size.ensures; gone = c.let_go.ensures.gone; left = c.let_go.ensures.left })
+      (record { parts = c.waiting-waiting.ensures.parts; old = c.size-size.ensures; new = c.size.ensures; gone = c.drain_if_grown.ensures.gone; left = c.drain_if_grown.ensures.left })
       (subst (λ (w : List Bytes). ShowsAtMost (log_key_of c.args.self.now.key) (g.S.LogShelf.quorum c.args.self.now.shelf) w
       (along (g.S.LogShelf.kept c.args.self.now.shelf) (g.S.LogShelf.kept c.append-outcome.new.self) (g.S.LogShelf.trace c.args.self.now.shelf) (g.S.LogShelf.trace c.append-outcome.new.self) c.args.self.now.ledger c.append-outcome.new.ledger))
       c.waiting-waiting.ensures.waiting c.in-Err.ensures.part)
       c.if-not-self.false);
-  rings = ap rings_of c.let_go.ensures.log;
+  rings = ap rings_of c.drain_if_grown.ensures.log;
   begun =
       ap (λ (p : Bytes). Some (record {
         key = log_key_of c.args.self.now.key;

@@ -1,6 +1,0 @@
-use Rattle.std.proofs.Common.{arith}
-use Rattle.std.proofs.lemmas.Grind.{common_steps}
-use Rattle.tl_heart.proofs.heart.Heart.after_nothing.Goals as goal
-
-pub returns-in-Publishing-true : goal.returns-in-Publishing-true
-returns-in-Publishing-true g c = grind (arith, common_steps)

@@ -1,5 +1,0 @@
-use Rattle.tl_heart.proofs.Faults.{ends_all}
-use Rattle.tl_heart.proofs.laws.first_fault_ends_all.Goals as goal
-
-pub returns : goal.returns
-returns g c = λ h fault runs events. ends_all h fault runs events

@@ -1,3 +1,0 @@
--- The definitions of what a running log does next.
-pub mod Heart
-pub mod Order
