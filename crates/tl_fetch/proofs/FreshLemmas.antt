@@ -99,7 +99,7 @@ unasked note witnesses asked none = subst (λ (a : Option ℕ). IsFresh note wit
 
 fresh_by : (note : Bytes) (witnesses : List Key) (since : ℕ) (text : Bytes) (lines : List Signature) → Note note text lines → SomeLate text lines since witnesses
     → IsCosignedSince note witnesses since
-fresh_by note witnesses since text lines noted (key, known, line, stands, time, valid, late) = record {
+fresh_by note witnesses since text lines noted (key, known, (line, stands, (time, valid, late))) = record {
   text = text;
   lines = lines;
   noted = noted;

@@ -22,7 +22,7 @@ use Rattle.tl_folder.specs.Limits.{most_bytes}
 use Rattle.tl_source.specs.Sources.{Origin, any_answers}
 use Rattle.tl_fetch.specs.Command.{IsOriginOf, IsStateFault, RunsUnder, cached_answers, cached_lacks, may_have, state_fails}
 use Rattle.tl_fetch.specs.Inner.Naming.{Renames, RunsOver, RunsWith}
-use Rattle.tl_fetch.specs.Fetching.{FailsGrown, Grounds, HasFetched, HasPrinted, IsAccusation, IsMarked, LacksLast, RefusesFetch, RefusesGrown, RefusesTwo, Store, first_wanted, grounds_of, since}
+use Rattle.tl_fetch.specs.Fetching.{FailsGrown, Grounds, HasFetched, HasPrinted, IsMarked, RefusesFetch, RefusesGrown, RefusesTwo, Store, first_wanted, grounds_of, since}
 use Rattle.tl_fetch.specs.Trusting.{AreTwo, IsGrown, IsKnown, IsNoteOf, Policy, Two}
 use Rattle.tl_fetch.proofs.JudgingLemmas.{judged}
 use Rattle.tl_fetch.proofs.Passages.{GoesOn, joined, silent_both, silent_some, silent_whole}

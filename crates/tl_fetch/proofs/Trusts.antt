@@ -4,7 +4,7 @@ use Rattle.tl_hash.specs.Bytes.{Bytes}
 use Rattle.tl_tile.specs.declared.resource.Resource.{Resource}
 use Rattle.tl_tile.specs.declared.resource.Resource.TheVariants.{Checkpoint}
 use Rattle.tl_fetch.specs.declared.fault.FetchFault.{FetchFault}
-use Rattle.tl_fetch.specs.Fetching.{Grounds, LacksLast, LacksTrust}
+use Rattle.tl_fetch.specs.Fetching.{LacksLast}
 use Rattle.tl_fetch.specs.Inner.Trusted.{RefusesText}
 use Rattle.tl_fetch.specs.Opening.{RefusesCheckpoint, RefusesNote, RefusesState}
 use Rattle.tl_fetch.specs.Trusting.{Policy}

@@ -1,4 +1,4 @@
-use Rattle.std.proofs.Common.{arith, map}
+use Rattle.std.proofs.Common.{arith}
 use Rattle.std.proofs.lemmas.List.{take_rest}
 use Rattle.tl_fetch.specs.Inner.Freshness.{AreEarly, HasLate}
 use Rattle.tl_fetch.proofs.FreshLemmas.{first_found, keys_are, none_mapped, search_more}
@@ -11,11 +11,11 @@ returns-in_default g t c =
 pub returns-then-branch : goal.returns-then-branch
 returns-then-branch g t c =
     first_found (HasLate c.args.text.now c.args.lines.now c.args.since) _ _ _
-    (keys_are (λ b. (goal.Verifier-dyn g (b.vtable, b.value)).key b.value) c.args.witnesses.now c.first-item.result _ (take_rest c.args.witnesses.now 1) c.in-len1-up.len_at_least c.first-item.is)
+    (keys_are _ c.args.witnesses.now c.first-item.result _ (take_rest c.args.witnesses.now 1) c.in-len1-up.len_at_least c.first-item.is)
     (rw (c.if-branch.true) at c.in_ok-has_line.ensures)
 
 pub returns : goal.returns
 returns g t c =
     search_more (HasLate c.args.text.now c.args.lines.now c.args.since) (AreEarly c.args.text.now c.args.lines.now c.args.since) _ _ _
-    (keys_are (λ b. (goal.Verifier-dyn g (b.vtable, b.value)).key b.value) c.args.witnesses.now c.first-item.result _ (take_rest c.args.witnesses.now 1) c.in-len1-up.len_at_least c.first-item.is)
+    (keys_are _ c.args.witnesses.now c.first-item.result _ (take_rest c.args.witnesses.now 1) c.in-len1-up.len_at_least c.first-item.is)
     (rw (c.if-branch.false) at c.in_ok-has_line.ensures) c.has_witness.result c.has_witness.ensures

@@ -9,7 +9,7 @@ loop-place-init c = read_none (map string_bytes c.args.texts.now) c.new-urls.res
 pub loop-place-preserved : goal.loop-place-preserved
 loop-place-preserved c =
     read_more (map string_bytes c.args.texts.now) c.loop-place.place c.in-Some.url c.loop-place.urls.items _
-    (omega (arith, c.loop-place-test.true, c.len-place-end.ensures, length-map c.args.texts.now string_bytes))
+    (omega (arith, c.loop-place-test.true, length-map c.args.texts.now string_bytes))
     c.in-Some.ensures c.in_ok-push.ensures.items c.loop-place.invariant
 
 pub returns-in_default-clause-refused : goal.returns-in_default-clause-refused
@@ -17,10 +17,10 @@ returns-in_default-clause-refused c = inr (
   c.loop-place.place,
   refl,
   first_none (map string_bytes c.args.texts.now) c.loop-place.place c.loop-place.urls.items
-      (omega (arith, c.loop-place-test.true, c.len-place-end.ensures, length-map c.args.texts.now string_bytes)) c.in_default.ensures c.loop-place.invariant,
+      (omega (arith, c.loop-place-test.true, length-map c.args.texts.now string_bytes)) c.in_default.ensures c.loop-place.invariant,
 )
 
 pub returns-clause-read : goal.returns-clause-read
 returns-clause-read c =
     read_all (map string_bytes c.args.texts.now) c.loop-place.place c.loop-place.urls.items
-    (omega (arith, c.loop-place-test.false, c.len-place-end.ensures, length-map c.args.texts.now string_bytes)) c.loop-place.invariant
+    (omega (arith, c.loop-place-test.false, length-map c.args.texts.now string_bytes)) c.loop-place.invariant
