@@ -4,6 +4,7 @@ use Rattle.std.specs.Prelude.{Option, Result}
 use Rattle.tl_device.specs.Device.{Passage}
 use Rattle.tl_command.specs.declared.fault.RunFault.{RunFault}
 use Rattle.tl_command.specs.Head.{RunsHead}
+use Rattle.tl_command.specs.Open.{RunsOpen}
 use Rattle.tl_evidence.specs.ForkCommand.{RunsFork}
 use Rattle.tl_cli.specs.Job.{BuildsDemo, BuildsSigned, ChecksFile}
 
@@ -28,3 +29,6 @@ builds_demo origin named secret told get asked i o r runs a b c =
 
 pub runs_fork : (key text : List ℕ) (i o : Passage) (r : Result (Unit {0}) RunFault) → RunsFork text i o r → text ≡ key → RunsFork key i o r
 runs_fork key text i o r runs a = subst (λ (k : List ℕ). RunsFork k i o r) a runs
+
+pub runs_open : (key text : List ℕ) (i o : Passage) (r : Result (Unit {0}) RunFault) → RunsOpen text i o r → text ≡ key → RunsOpen key i o r
+runs_open key text i o r runs a = subst (λ (k : List ℕ). RunsOpen k i o r) a runs

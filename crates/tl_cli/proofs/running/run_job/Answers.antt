@@ -1,6 +1,7 @@
 use Rattle.std.proofs.Common.{refl, rules}
 use Rattle.std.proofs.KnownBytes.{Keeps-refl}
-use Rattle.tl_cli.proofs.FileRuns.{runs_fork}
+use Rattle.tl_device.specs.Device.{passage}
+use Rattle.tl_cli.proofs.FileRuns.{runs_fork, runs_open}
 use Rattle.tl_cli.proofs.running.run_job.Goals as goal
 
 pub returns-in-Head : goal.returns-in-Head
@@ -44,3 +45,14 @@ returns-in-ServeFrom g c = rw c.in-ServeFrom.is (c.serve_from.ensures, search ru
 pub returns-in-CheckFork : goal.returns-in-CheckFork
 returns-in-CheckFork g c = rw c.in-CheckFork.is
     ((c.run_check_fork.result, runs_fork _ _ _ _ _ c.run_check_fork.ensures c.deref.ensures, c.after_run-in-CheckFork.ensures), search rules)
+
+pub returns-in-Open : goal.returns-in-Open
+returns-in-Open g c = rw c.in-Open.is (
+  (
+    c.run_open.result,
+    runs_open _ c.deref-in-Open.result.now (passage g.R.Read.remaining c.args.reader.now c.run_open.new.reader)
+        (passage g.W.Write.contents c.args.writer.now c.run_open.new.writer) c.run_open.result c.run_open.ensures c.deref-in-Open.ensures,
+    c.after_run-in-Open.ensures,
+  ),
+  search rules,
+)
