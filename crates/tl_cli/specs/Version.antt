@@ -8,7 +8,7 @@ use Rattle.tl_command.specs.declared.fault.RunFault.TheVariants.{Write}
 
 -- the program's name and version, and the kit that it is proved with
 abbrev pub version_line : Bytes
-version_line = line (codes "tlog 0.1.0 (proved with rattle-kit-13f logic dac8208d650f15bf)")
+version_line = line (codes "tlog 0.1.0 (proved with rattle-kit-13 logic dac8208d650f15bf)")
 
 -- a text is printed
 abbrev pub PrintsText : Bytes → Passage → Result (Unit {0}) RunFault → Type 0

@@ -9,7 +9,7 @@ use tl_device::Counted;
 
 // The program's version, and the kit that it is proved with. The formats that it reads and writes have versions of
 // their own.
-const LINE: &str = "tlog 0.1.0 (proved with rattle-kit-13f logic dac8208d650f15bf)\n";
+const LINE: &str = "tlog 0.1.0 (proved with rattle-kit-13 logic dac8208d650f15bf)\n";
 
 /// Prints a text.
 pub(crate) fn print_whole<W: Write>(text: &str, writer: &mut Counted<W>) -> Result<(), RunFault>
