@@ -12,7 +12,7 @@ use Rattle.tl_lines.specs.Lines.{Uncut, unread}
 use Rattle.tl_lines.specs.Reading.{TellsAll, TellsOf, all_entries}
 use Rattle.tl_lines.proofs.ReadingLemmas.{over}
 use Rattle.tl_tile.specs.declared.resource.Resource.TheVariants as resource
-use Rattle.tl_publisher.specs.Histories.{Prefix}
+use Rattle.tl_log.specs.Histories.{Prefix}
 use Rattle.tl_archive.specs.Shelves.{Kept}
 use Rattle.tl_ledger.specs.Standing.{Ledger}
 use Rattle.tl_ledger.specs.Keeping.{published}

@@ -8,7 +8,7 @@ use Rattle.tl_note.specs.Key.{IsKeyName, Key}
 use Rattle.tl_device.specs.Device.{Passage}
 use Rattle.tl_lines.proofs.ReadingLemmas.{over}
 use Rattle.tl_tile.specs.declared.resource.Resource.TheVariants as resource
-use Rattle.tl_publisher.specs.Histories.{Prefix}
+use Rattle.tl_log.specs.Histories.{Prefix}
 use Rattle.tl_archive.specs.Shelves.{Kept}
 use Rattle.tl_ledger.specs.Standing.{Ledger, IsStanding}
 use Rattle.tl_ledger.specs.Keeping.{IsKeeping}

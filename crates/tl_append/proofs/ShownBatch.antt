@@ -6,7 +6,7 @@ use Rattle.sha2.specs.Sha256.{sha256}
 use Rattle.tl_hash.specs.Bytes.{Bytes}
 use Rattle.tl_hash.specs.Tree.{tree_hash}
 use Rattle.tl_tile.specs.declared.resource.Resource.TheVariants as resource
-use Rattle.tl_publisher.specs.Histories.{Prefix}
+use Rattle.tl_log.specs.Histories.{Prefix}
 use Rattle.tl_archive.specs.Shelves.{Kept}
 use Rattle.tl_archive.specs.Complete.{KeptSafe}
 use Rattle.tl_archive.proofs.Lists.{has_head}

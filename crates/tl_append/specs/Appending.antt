@@ -9,7 +9,7 @@ use Rattle.tl_device.specs.Device.{Passage, HasFailed, WroteWhole}
 use Rattle.tl_lines.specs.Lines.{Told, Uncut, unread}
 use Rattle.tl_lines.specs.Reading.{TellsOf, TellsAll, all_entries}
 use Rattle.tl_tile.specs.declared.resource.Resource.TheVariants as resource
-use Rattle.tl_publisher.specs.Histories.{Prefix}
+use Rattle.tl_log.specs.Histories.{Prefix}
 use Rattle.tl_archive.specs.Shelves.{Kept}
 use Rattle.tl_archive.specs.Complete.{IsFor, KeptSafe}
 use Rattle.tl_ledger.specs.Standing.{Ledger}

@@ -8,7 +8,7 @@ use Rattle.tl_note.specs.Key.{Key}
 use Rattle.tl_tile.specs.declared.resource.Resource.TheVariants as resource
 use Rattle.tl_checkpoint.specs.Checkpoint as checkpoint
 use Rattle.tl_client.specs.Trusted.{IsTrusted}
-use Rattle.tl_publisher.specs.Histories.{Prefix}
+use Rattle.tl_log.specs.Histories.{Prefix}
 use Rattle.tl_archive.specs.Complete.{KeptSafe}
 use Rattle.tl_ledger.specs.Keeping.{IsKeeping, published}
 use Rattle.tl_command.specs.Mirror.{LogKey, checkpoint_note}

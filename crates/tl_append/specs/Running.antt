@@ -11,7 +11,7 @@ use Rattle.tl_key.specs.NoteKey.{SeedKey, note_kind, public_of, verifier_key}
 use Rattle.tl_lines.specs.Lines.{Uncut, unread}
 use Rattle.tl_lines.specs.Reading.{TellsAll, all_entries}
 use Rattle.tl_tile.specs.declared.resource.Resource.TheVariants as resource
-use Rattle.tl_publisher.specs.Histories.{Prefix, Begins}
+use Rattle.tl_log.specs.Histories.{Prefix, Begins}
 use Rattle.tl_archive.specs.Shelves.{Kept}
 use Rattle.tl_archive.specs.Complete.{HasAll, IsSafe, KeptSafe}
 use Rattle.tl_ledger.specs.Opening.{Found, FoundCollides, IsLogOf}

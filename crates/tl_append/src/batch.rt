@@ -5,7 +5,7 @@ ghost use Rattle.sha2.specs.Sha256.{sha256};
 ghost use Rattle.tl_hash.specs.Bytes.{Bytes};
 ghost use Rattle.tl_note.specs.Key.{IsKeyName};
 ghost use Rattle.tl_tile.specs.Bundle.{AreShortEntries};
-ghost use Rattle.tl_publisher.specs.Histories.{Prefix};
+ghost use Rattle.tl_log.specs.Histories.{Prefix};
 ghost use Rattle.tl_archive.specs.Complete.{KeptSafe};
 ghost use Rattle.tl_ledger.specs.Keeping.{IsKeeping};
 ghost use Rattle.tl_ledger.specs.Spent.{LacksSpent};

@@ -12,9 +12,9 @@ use Rattle.tl_tile.specs.TileText.{entries_under}
 use Rattle.tl_tile.specs.Bundle.{bundle_text}
 use Rattle.tl_tile.specs.Needed.{needed_resources}
 use Rattle.tl_tile.proofs.TileTexts.{scaled_le}
-use Rattle.tl_publisher.specs.Histories.{Begins}
-use Rattle.tl_publisher.specs.Boards.{same_resource, needs}
-use Rattle.tl_publisher.proofs.Needs.{same_self}
+use Rattle.tl_log.specs.Histories.{Begins}
+use Rattle.tl_log.specs.Resources.{same_resource, needs}
+use Rattle.tl_log.proofs.Needs.{same_self}
 use Rattle.tl_archive.specs.Inner.Pieces.{LiesWithin}
 use Rattle.tl_archive.specs.Complete.{text_of}
 use Rattle.tl_archive.specs.Inner.Laws.{NeededBytesStay}

@@ -7,7 +7,7 @@ use Rattle.tl_tile.specs.declared.resource.Resource.TheVariants as resource
 use Rattle.tl_tile.specs.TileText.{tile_text}
 use Rattle.tl_tile.specs.Bundle.{bundle_text}
 use Rattle.tl_tile.specs.Needed.{needed_resources}
-use Rattle.tl_publisher.specs.Histories.{Prefix}
+use Rattle.tl_log.specs.Histories.{Prefix}
 use Rattle.tl_archive.specs.Shelves.{Held, Kept, MayLeave}
 
 -- the bytes of a tile or bundle over a list of entries; a checkpoint is neither

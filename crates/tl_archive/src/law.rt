@@ -5,7 +5,7 @@ ghost use Rattle.tl_hash.specs.Bytes.{Bytes, Digest};
 ghost use Rattle.tl_tile.specs.declared.resource.Resource.{Resource};
 ghost use Rattle.tl_tile.specs.Needed.{needed_resources};
 ghost use Rattle.tl_archive.specs.Complete.{text_of, IsComplete, IsSafe};
-ghost use Rattle.tl_publisher.specs.Histories.{Prefix};
+ghost use Rattle.tl_log.specs.Histories.{Prefix};
 ghost use Rattle.tl_archive.specs.Shelves.{Kept};
 
 /// What a log needed once has the same bytes over a longer log: what is on a shelf is never wrong later.

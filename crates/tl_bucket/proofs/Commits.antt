@@ -6,7 +6,7 @@ use Rattle.std.proofs.lemmas.List.{length-append}
 use Rattle.tl_hash.specs.Bytes.{Bytes, Digest}
 use Rattle.tl_tile.specs.declared.resource.Resource.{Resource}
 use Rattle.tl_tile.specs.Needed.{needed_resources}
-use Rattle.tl_publisher.specs.Histories.{Begins}
+use Rattle.tl_log.specs.Histories.{Begins}
 use Rattle.tl_archive.specs.Complete.{text_of}
 use Rattle.tl_archive.proofs.Stays.{needed_bytes_stay}
 use Rattle.tl_bucket.specs.Bucket.{Store, Committed, IsCommitted}

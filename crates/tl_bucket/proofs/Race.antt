@@ -2,7 +2,7 @@
 use Rattle.std.proofs.Common.{◌≡◌, List, [], ◌∷◌, length, Some, None, refl, arith}
 use Rattle.std.specs.Prelude.{Contains}
 use Rattle.tl_hash.specs.Bytes.{Bytes}
-use Rattle.tl_publisher.specs.Histories.{last_of}
+use Rattle.tl_log.specs.Histories.{last_of}
 use Rattle.tl_bucket.specs.Bucket.{Committed, put_commit}
 use Rattle.tl_bucket.specs.Operators.{Setting, World, TellsSize, beginning, Event, sends, does, Leads}
 use Rattle.tl_bucket.proofs.Sound.{sound_led}

@@ -5,7 +5,7 @@ use Rattle.tl_hash.specs.Bytes.{Bytes}
 use Rattle.tl_tile.specs.declared.resource.Resource.{Resource}
 use Rattle.tl_tile.specs.Needed.{needed_resources, needed_resources_since}
 use Rattle.tl_tile.proofs.NeededSince.{since_is_new}
-use Rattle.tl_publisher.specs.Histories.{Prefix, Begins}
+use Rattle.tl_log.specs.Histories.{Prefix, Begins}
 use Rattle.tl_archive.specs.Complete.{text_of, HasAll}
 use Rattle.tl_archive.proofs.Needs.{needed_within}
 use Rattle.tl_bucket.specs.Bucket.{IsCommitted}

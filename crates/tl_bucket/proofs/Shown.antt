@@ -11,7 +11,7 @@ use Rattle.std.proofs.lemmas.List.Quantifiers.{all_pairs_push}
 use Rattle.tl_hash.specs.Bytes.{Bytes}
 use Rattle.tl_hash.proofs.Bytes.{cases_bytes}
 use Rattle.tl_tile.specs.declared.resource.Resource.TheVariants as resource
-use Rattle.tl_publisher.specs.Histories.{Prefix, Begins, last_of, note_if}
+use Rattle.tl_log.specs.Histories.{Prefix, Begins, last_of, note_if}
 use Rattle.tl_archive.specs.Complete.{IsComplete}
 use Rattle.tl_archive.proofs.Lists.{none_has, one_has, has_head, has_tail}
 use Rattle.tl_bucket.specs.Bucket.{Store, Request, put_commit, put_resource, put_checkpoint, is_met}

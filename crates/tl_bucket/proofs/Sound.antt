@@ -7,9 +7,9 @@ use Rattle.tl_hash.specs.Bytes.{Bytes}
 use Rattle.tl_tile.specs.declared.resource.Resource.{Resource}
 use Rattle.tl_tile.specs.declared.resource.Resource.TheVariants as resource
 use Rattle.tl_tile.specs.Needed.{needed_resources}
-use Rattle.tl_publisher.specs.Histories.{Prefix, last_of, note_if}
-use Rattle.tl_publisher.specs.Boards.{same_resource}
-use Rattle.tl_publisher.proofs.Needs.{same_is}
+use Rattle.tl_log.specs.Histories.{Prefix, last_of, note_if}
+use Rattle.tl_log.specs.Resources.{same_resource}
+use Rattle.tl_log.proofs.Needs.{same_is}
 use Rattle.tl_archive.specs.Complete.{text_of}
 use Rattle.tl_archive.proofs.Lists.{none_has}
 use Rattle.tl_archive.proofs.Needs.{needed_within}

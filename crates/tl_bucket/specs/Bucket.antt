@@ -3,8 +3,8 @@
 use Rattle.std.specs.Prelude.{◌≡◌, ℕ, zero, suc, Bool, true, false, List, [], ◌++◌, Option, Some, None, ◌==◌, bytes_eq, if◌then◌else◌}
 use Rattle.tl_hash.specs.Bytes.{Bytes}
 use Rattle.tl_tile.specs.declared.resource.Resource.{Resource}
-use Rattle.tl_publisher.specs.Histories.{Prefix}
-use Rattle.tl_publisher.specs.Boards.{same_resource}
+use Rattle.tl_log.specs.Histories.{Prefix}
+use Rattle.tl_log.specs.Resources.{same_resource}
 use Rattle.tl_archive.specs.Shelves.{Held}
 
 -- what is there: under `commit/N`, N from 1 on, the entries that the commit appends; and the log's resources

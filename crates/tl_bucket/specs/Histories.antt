@@ -3,8 +3,8 @@ use Rattle.std.specs.Prelude.{◌≡◌, ◌≢◌, ◌⊎◌, List, AllPairs, C
 use Rattle.tl_hash.specs.Bytes.{Bytes}
 use Rattle.tl_note.specs.Note.{Signature, Note}
 use Rattle.tl_checkpoint.specs.Checkpoint.{IsHead}
-use Rattle.tl_publisher.specs.Histories.{Prefix, Begins}
-use Rattle.tl_publisher.specs.Signed.{head_of_log, text_of_log}
+use Rattle.tl_log.specs.Histories.{Prefix, Begins}
+use Rattle.tl_log.specs.Checkpoints.{head_of_log, text_of_log}
 
 -- the one list begins the other
 abbrev pub AreConsistent : List Bytes → List Bytes → Type 0

@@ -5,7 +5,7 @@ use Rattle.tl_text.specs.Text.{line, number_text, HasNoControl, IsSize}
 use Rattle.tl_tile.specs.declared.resource.Resource.{Resource}
 use Rattle.tl_tile.specs.declared.resource.Resource.TheVariants as resource
 use Rattle.tl_tile.specs.Needed.{needed_resources}
-use Rattle.tl_publisher.specs.Histories.{Prefix}
+use Rattle.tl_log.specs.Histories.{Prefix}
 use Rattle.tl_archive.specs.Complete.{text_of, HasAll}
 use Rattle.tl_bucket.specs.Bucket.{Store, no_objects, Committed, IsCommitted, Request, put_commit, put_resource, put_checkpoint, with_commit, with_resource, is_met}
 

@@ -4,7 +4,7 @@ ghost use Rattle.std.specs.Prelude.{◌≡◌, ◌≢◌, ◌⊎◌, ℕ, suc, �
 ghost use Rattle.tl_hash.specs.Bytes.{Bytes};
 ghost use Rattle.tl_tile.specs.declared.resource.Resource.{Resource};
 ghost use Rattle.tl_tile.specs.declared.resource.Resource.TheVariants as resource;
-ghost use Rattle.tl_publisher.specs.Histories.{Prefix, Begins, last_of, note_if};
+ghost use Rattle.tl_log.specs.Histories.{Prefix, Begins, last_of, note_if};
 ghost use Rattle.tl_tile.specs.Needed.{needed_resources, needed_resources_since};
 ghost use Rattle.tl_archive.specs.Complete.{text_of, HasAll, IsComplete};
 ghost use Rattle.tl_bucket.specs.Commits.{Commit, IsBehind, IsCommit};

@@ -9,7 +9,7 @@ use Rattle.tl_tile.specs.declared.resource.Resource.{Resource}
 use Rattle.tl_tile.specs.declared.resource.Resource.TheVariants as resource
 use Rattle.tl_tile.specs.RightEdge.{EdgeContents}
 use Rattle.tl_tile.proofs.NeededSince.{since_is_new}
-use Rattle.tl_publisher.specs.Histories.{Prefix, Begins}
+use Rattle.tl_log.specs.Histories.{Prefix, Begins}
 use Rattle.tl_archive.specs.Shelves.{Item, Held, Kept, Between, MayLeave, Unstages, Settles}
 use Rattle.tl_archive.specs.Complete.{text_of, HasAll, IsComplete, IsFor, IsSafe, KeptSafe}
 use Rattle.tl_archive.proofs.Needs.{needed_within}

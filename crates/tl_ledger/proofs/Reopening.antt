@@ -23,7 +23,7 @@ use Rattle.tl_tile.specs.Path.{IsTile}
 use Rattle.tl_tile.specs.Needed.{bundle_width, needed_resources}
 use Rattle.tl_tile.specs.Folds.{TilesCollide}
 use Rattle.tl_tile.specs.RightEdge.{EdgeContents, IsEdgeOf}
-use Rattle.tl_publisher.proofs.Needs.{bundle_needs, tile_needs}
+use Rattle.tl_log.proofs.Needs.{bundle_needs, tile_needs}
 use Rattle.tl_tile.specs.Source.{AreAnswers, IsTileOf}
 use Rattle.tl_tile.specs.Bundle.{bundle_text}
 use Rattle.tl_tile.specs.TileLaws.{AreHonest}

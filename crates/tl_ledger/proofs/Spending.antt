@@ -14,8 +14,8 @@ use Rattle.tl_tile.specs.TileText.{level_count}
 use Rattle.tl_tile.specs.Needed.{needed_resources}
 use Rattle.tl_tile.proofs.Levels.{next_power, positive_256}
 use Rattle.tl_tile.proofs.TileTexts.{scaled_le}
-use Rattle.tl_publisher.specs.Histories.{Prefix, Begins}
-use Rattle.tl_publisher.proofs.Needs.{needs_tile, needs_bundle}
+use Rattle.tl_log.specs.Histories.{Prefix, Begins}
+use Rattle.tl_log.proofs.Needs.{needs_tile, needs_bundle}
 use Rattle.tl_archive.specs.Shelves.{Item, Held, Kept, MayLeave}
 use Rattle.tl_archive.specs.Complete.{text_of, HasAll, IsSafe, KeptSafe}
 use Rattle.tl_archive.proofs.Lists.{none_has, all_is}

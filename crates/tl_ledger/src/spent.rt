@@ -3,7 +3,7 @@
 ghost use Rattle.std.specs.Prelude.{◌≡◌, ℕ, ◌+◌, ◌*◌, ◌^◌, ◌<◌, ◌≤◌, List, OnErr, OnOk};
 ghost use Rattle.sha2.specs.Sha256.{sha256};
 ghost use Rattle.tl_hash.specs.Bytes.{Bytes};
-ghost use Rattle.tl_publisher.specs.Histories.{Prefix};
+ghost use Rattle.tl_log.specs.Histories.{Prefix};
 ghost use Rattle.tl_archive.specs.Complete.{KeptSafe};
 ghost use Rattle.tl_archive.specs.Shelves.{Fails};
 ghost use Rattle.tl_ledger.specs.Keeping.{IsKeeping};

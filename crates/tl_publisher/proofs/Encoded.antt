@@ -6,9 +6,11 @@ use Rattle.sha2.specs.Sha256.{sha256}
 use Rattle.tl_note.specs.Key.{SigningKey}
 use Rattle.tl_tile.specs.declared.resource.Resource.{Resource}
 use Rattle.tl_tile.specs.declared.resource.Resource.TheVariants as resource
-use Rattle.tl_publisher.specs.Histories.{Prefix, Begins, AreOf, last_of, note_if, sizes_of}
-use Rattle.tl_publisher.specs.Signed.{IsSignedNote, AreSignedBy, Quorum, text_of_log}
-use Rattle.tl_publisher.specs.Boards.{shown, was_needed, tile_if, bundle_if}
+use Rattle.tl_log.specs.Histories.{Prefix, Begins, AreOf, last_of, note_if, sizes_of}
+use Rattle.tl_log.specs.Checkpoints.{text_of_log}
+use Rattle.tl_publisher.specs.Signed.{IsSignedNote, AreSignedBy, Quorum}
+use Rattle.tl_log.specs.Resources.{was_needed}
+use Rattle.tl_publisher.specs.Boards.{shown, tile_if, bundle_if}
 use Rattle.tl_publisher.specs.Encoded.{Encodes, AreEncoded}
 use Rattle.tl_publisher.proofs.Runs.{last_all, some_one}
 

@@ -6,7 +6,7 @@ use Rattle.std.proofs.lemmas.Grind.{flat_map-append}
 use Rattle.sha2.specs.Sha256.{sha256}
 use Rattle.tl_sequencer.specs.Log.{Log, entries_of}
 use Rattle.tl_tile.specs.RightEdge.{EdgeContents}
-use Rattle.tl_publisher.specs.Histories.{last_size}
+use Rattle.tl_log.specs.Histories.{last_size}
 use Rattle.tl_publisher.specs.Boards.{Board}
 use Rattle.tl_publisher.specs.Filled.{filled_from}
 use Rattle.tl_publisher.specs.Grown.{Grown, texts_of, IsGrown}

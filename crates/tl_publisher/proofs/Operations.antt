@@ -20,9 +20,11 @@ use Rattle.tl_publisher.specs.declared.fault.PublishFault.TheVariants as publish
 use Rattle.tl_publisher.specs.declared.fault.OperatorFault.{OperatorFault}
 use Rattle.tl_publisher.specs.declared.fault.OperatorFault.TheVariants as operator
 use Rattle.tl_checkpoint.specs.Quorum.{AreApart}
-use Rattle.tl_publisher.specs.Histories.{Prefix, Past, Begins, BeginWith, AreOf, IsGrowing, last_of}
+use Rattle.tl_log.specs.Histories.{Prefix, Begins, BeginWith, AreOf, IsGrowing, last_of}
+use Rattle.tl_publisher.specs.Seen.{Past}
 use Rattle.tl_publisher.specs.Stages.{IsNextOf}
-use Rattle.tl_publisher.specs.Signed.{AreSigners, IsSignedNote, IsByWitness, AreSignedBy, Quorum, no_quorum, text_of_log}
+use Rattle.tl_log.specs.Checkpoints.{text_of_log}
+use Rattle.tl_publisher.specs.Signed.{AreSigners, IsSignedNote, IsByWitness, AreSignedBy, Quorum, no_quorum}
 use Rattle.tl_publisher.specs.Operating.{Operated, IsOperating, IsOfSame, IsProposal, IsClosed}
 use Rattle.tl_publisher.specs.Publishing.{Publishes, IsPublication, IsSame, MayOpenAll, OpenRefusesOperator}
 use Rattle.tl_publisher.specs.Inner.Noting.{text_of_head}

@@ -12,9 +12,11 @@ use Rattle.tl_checkpoint.specs.Checkpoint.{checkpoint_text}
 use Rattle.tl_note.specs.Key.{SigningKey}
 use Rattle.tl_checkpoint.specs.Quorum.{AreApart}
 use Rattle.tl_sequencer.specs.Log.{Log, entries_of}
-use Rattle.tl_publisher.specs.Histories.{Prefix, Past, AreOf, BeginWith, Begins, IsGrowing, last_of}
+use Rattle.tl_log.specs.Histories.{Prefix, AreOf, BeginWith, Begins, IsGrowing, last_of}
+use Rattle.tl_publisher.specs.Seen.{Past}
 use Rattle.tl_publisher.specs.Boards.{Board, face_head, head_if}
-use Rattle.tl_publisher.specs.Signed.{AreSigners, IsSignedNote, AreSignedBy, Quorum, no_quorum, text_of_log}
+use Rattle.tl_log.specs.Checkpoints.{text_of_log}
+use Rattle.tl_publisher.specs.Signed.{AreSigners, IsSignedNote, AreSignedBy, Quorum, no_quorum}
 use Rattle.tl_publisher.specs.Operating.{Operated, IsOperating, IsOfSame, IsProposal}
 use Rattle.tl_publisher.specs.Publishing.{EndsWith, IsFree, IsSame, Publishes}
 use Rattle.tl_publisher.specs.Proposing.{IsRequired, IsProposed, ProposeRefuses}

@@ -6,8 +6,9 @@ use Rattle.tl_tile.specs.declared.resource.Resource.{Resource}
 use Rattle.tl_tile.specs.declared.resource.Resource.TheVariants as resource
 use Rattle.tl_tile.specs.TileText.{tile_text}
 use Rattle.tl_tile.specs.Bundle.{bundle_text}
-use Rattle.tl_publisher.specs.Histories.{Prefix, Begins, StartsWith}
-use Rattle.tl_publisher.specs.Signed.{IsSignedNote, Quorum, text_of_log}
+use Rattle.tl_log.specs.Histories.{Prefix, Begins, StartsWith}
+use Rattle.tl_log.specs.Checkpoints.{text_of_log}
+use Rattle.tl_publisher.specs.Signed.{IsSignedNote, Quorum}
 use Rattle.tl_publisher.specs.Boards.{shown}
 
 -- the bytes under a resource of a log with these entries: the tile, the bundle, or a signed note of the checkpoint

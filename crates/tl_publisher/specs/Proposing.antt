@@ -14,8 +14,10 @@ use Rattle.tl_publisher.specs.declared.fault.RequireFault.{RequireFault}
 use Rattle.tl_publisher.specs.declared.fault.RequireFault.TheVariants as require
 use Rattle.tl_publisher.specs.declared.fault.AttachFault.{AttachFault}
 use Rattle.tl_publisher.specs.declared.fault.AttachFault.TheVariants as attach
-use Rattle.tl_publisher.specs.Histories.{Prefix, Past}
-use Rattle.tl_publisher.specs.Signed.{IsSignedNote, Quorum, no_quorum, text_of_log}
+use Rattle.tl_log.specs.Histories.{Prefix}
+use Rattle.tl_publisher.specs.Seen.{Past}
+use Rattle.tl_log.specs.Checkpoints.{text_of_log}
+use Rattle.tl_publisher.specs.Signed.{IsSignedNote, Quorum, no_quorum}
 use Rattle.tl_publisher.specs.Operating.{Operated}
 use Rattle.tl_publisher.specs.Publishing.{EndsWith, IsFree, IsSame}
 

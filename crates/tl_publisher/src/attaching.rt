@@ -2,7 +2,7 @@
 
 ghost use Rattle.std.specs.Prelude.{◌≡◌, ◌<◌, IfOk, Some, length, string_bytes};
 ghost use Rattle.std.specs.List.{All};
-ghost use Rattle.tl_publisher.specs.Histories.{Prefix};
+ghost use Rattle.tl_log.specs.Histories.{Prefix};
 ghost use Rattle.tl_publisher.specs.Inner.Attaching.{CosignsNote, CutsLines, HasBehind};
 ghost use Rattle.tl_publisher.specs.Operating.{IsOfSame, IsOperating};
 ghost use Rattle.tl_publisher.specs.Proposing.{Attaches};

@@ -1,6 +1,7 @@
 //! What a copy of the board holds, and how it changes.
 ghost use Rattle.std.specs.Prelude.{◌≡◌, ℕ, [], None, Some, take, IfOk, option_map, if◌then◌else◌, ◌*◌};
 ghost use Rattle.tl_tile.specs.declared.resource.Resource.TheVariants as resource;
+ghost use Rattle.tl_log.specs.Resources as resources;
 ghost use Rattle.tl_publisher.specs.Boards as boards;
 ghost use Rattle.tl_publisher.specs.Stages as stages;
 ghost use Rattle.tl_publisher.specs.Inner.Needs.{IsRising};
@@ -93,7 +94,7 @@ fn found_tile<'a, A: Allocator>(
     tile: Tile,
 ) -> Option<&'a [u8]>
     requires { IsRising sizes.now }
-    ensures { option_map (λ t. t.now) result ≡ if boards.was_needed (resource.Tile tile) sizes.now
+    ensures { option_map (λ t. t.now) result ≡ if resources.was_needed (resource.Tile tile) sizes.now
         then Some (take (32 * tile.width)
         (boards.tile_around items.now sheet.now tile.level tile.index)) else None }
 {
@@ -114,7 +115,7 @@ fn found_bundle<'a, A: Allocator>(
 ) -> Option<&'a [u8]>
     requires { IsRising sizes.now }
     ensures { option_map
-        (λ t. t.now) result ≡ if boards.was_needed (resource.Entries index width) sizes.now
+        (λ t. t.now) result ≡ if resources.was_needed (resource.Entries index width) sizes.now
         then Some (take (boards.front_length width (boards.bundle_around items.now sheet.now index))
         (boards.bundle_around items.now sheet.now index)) else None }
 {

@@ -4,7 +4,6 @@ ghost use Rattle.left_right.specs.Sides.{view};
 ghost use Rattle.sha2.specs.Sha256.{sha256};
 ghost use Rattle.tl_sequencer.specs.Log.{entries_of};
 ghost use Rattle.tl_publisher.specs.Boards as boards;
-ghost use Rattle.tl_publisher.specs.Histories as histories;
 ghost use Rattle.tl_publisher.specs.Inner.Publications.{published_as};
 ghost use Rattle.tl_publisher.specs.Stages as stages;
 ghost use Rattle.tl_publisher.specs.Rules.{knows};

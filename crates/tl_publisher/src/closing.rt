@@ -3,7 +3,7 @@
 ghost use Rattle.std.specs.Prelude.{◌≡◌, IfErr, IfOk, IsSome, ℕ, option_map, vec_items};
 ghost use Rattle.sha2.specs.Sha256.{sha256};
 ghost use Rattle.tl_publisher.specs.Boards as boards;
-ghost use Rattle.tl_publisher.specs.Histories as histories;
+ghost use Rattle.tl_log.specs.Histories as histories;
 ghost use Rattle.tl_publisher.specs.Operating.{IsClosed, IsOperating};
 ghost use Rattle.tl_sequencer.specs.Steps.{IsFirstOpen};
 
@@ -71,9 +71,9 @@ pub struct Board<R: Wait + Drop> {
 }
 
 impl<R: Wait + Drop> Model for Board<R> {
-    ghost use Rattle.tl_publisher.specs.Histories as histories;
+    ghost use Rattle.tl_publisher.specs.Seen as seen;
 
-    ghost Value = { histories.Past };
+    ghost Value = { seen.Past };
 
     ghost view = { λ b. b.writer.past };
 }

@@ -1,7 +1,8 @@
 //! What was seen of the history of publications. It exists in the proofs alone, but for its length.
 ghost use Rattle.std.specs.Prelude.{◌≡◌, ◌+◌, ◌<◌, ◌^◌, ◌++◌, ◌∷◌, [], length, MatchBool};
-ghost use Rattle.tl_publisher.specs.Histories as histories;
-ghost use Rattle.tl_publisher.specs.Histories.{StartsWith, Grew};
+ghost use Rattle.tl_log.specs.Histories as histories;
+ghost use Rattle.tl_log.specs.Histories.{StartsWith};
+ghost use Rattle.tl_publisher.specs.Seen.{Grew};
 ghost use Rattle.tl_publisher.specs.Pages.{head_of};
 
 use logbook::{Gain, Offer, Plain, Play, Rule, Seen, Start, Word};
@@ -12,7 +13,7 @@ pub struct Publication {}
 
 impl Model for Publication {
     ghost use Rattle.std.specs.Prelude.{[]};
-    ghost use Rattle.tl_publisher.specs.Histories as histories;
+    ghost use Rattle.tl_log.specs.Histories as histories;
 
     ghost Value = { histories.Prefix };
 
@@ -86,9 +87,9 @@ pub struct Past {
 
 impl Model for Past {
     ghost use Rattle.std.specs.Prelude.{◌≡◌, length};
-    ghost use Rattle.tl_publisher.specs.Histories as histories;
+    ghost use Rattle.tl_publisher.specs.Seen as seen;
 
-    ghost Value = { histories.Past };
+    ghost Value = { seen.Past };
 
     ghost view = { λ p. record { book = p.seen.book; log = p.seen.log } };
 

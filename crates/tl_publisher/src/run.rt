@@ -6,7 +6,7 @@ ghost use Rattle.tl_hash.specs.Tree.{tree_hash};
 ghost use Rattle.tl_sequencer.specs.Log.{entries_of, rings_of, IsEndOf};
 ghost use Rattle.tl_sequencer.specs.Merge.{IsMerge};
 ghost use Rattle.tl_sequencer.specs.Steps.{Takes, Closes, IsComplete, IsFirstOpen, sent_of};
-ghost use Rattle.tl_publisher.specs.Histories.{last_of};
+ghost use Rattle.tl_log.specs.Histories.{last_of};
 ghost use Rattle.tl_publisher.specs.Inner.Publications.{published_as};
 ghost use Rattle.tl_sequencer.specs.Faults.{MayTake, TakeRefuses, RestFits, EndRefuses};
 ghost use Rattle.tl_publisher.specs.Grown.{IsGrown};

@@ -3,7 +3,7 @@ use Rattle.std.specs.Prelude.{◌≡◌, List, ◌++◌, length, Contains}
 use Rattle.tl_hash.specs.Bytes.{Bytes, Digest}
 use Rattle.tl_tile.specs.declared.resource.Resource.{Resource}
 use Rattle.tl_tile.specs.Needed.{needed_resources}
-use Rattle.tl_publisher.specs.Histories.{Prefix}
+use Rattle.tl_log.specs.Histories.{Prefix}
 use Rattle.tl_archive.specs.Shelves.{Kept}
 use Rattle.tl_archive.specs.Complete.{text_of, IsComplete, IsSafe}
 

@@ -7,7 +7,7 @@ use Rattle.tl_note.specs.View.{AreLines}
 use Rattle.tl_checkpoint.specs.declared.quorum.Cosigned.{Cosigned}
 use Rattle.tl_publisher.specs.declared.fault.AttachFault.{AttachFault}
 use Rattle.tl_publisher.specs.declared.fault.AttachFault.TheVariants as attach
-use Rattle.tl_publisher.specs.Histories.{Prefix}
+use Rattle.tl_log.specs.Histories.{Prefix}
 use Rattle.tl_publisher.specs.Operating.{Operated}
 use Rattle.tl_publisher.specs.Proposing.{IsCosigned, AreTooFew}
 

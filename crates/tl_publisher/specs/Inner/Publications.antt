@@ -1,6 +1,6 @@
 -- Publications.
 use Rattle.std.specs.Prelude.{ℕ, List}
-use Rattle.tl_publisher.specs.Histories.{Prefix}
+use Rattle.tl_log.specs.Histories.{Prefix}
 
 -- the publication of these entries under this note
 abbrev pub published_as : List (List ℕ) → List ℕ → Prefix

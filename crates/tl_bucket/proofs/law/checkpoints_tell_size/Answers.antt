@@ -3,7 +3,7 @@ use Rattle.std.specs.List.{flat_map}
 use Rattle.tl_hash.specs.Bytes.{Bytes}
 use Rattle.tl_text.specs.Text.{line, number_text, base64_text}
 use Rattle.tl_note.specs.Note.{signature_line}
-use Rattle.tl_publisher.specs.Signed.{head_of_log}
+use Rattle.tl_log.specs.Checkpoints.{head_of_log}
 use Rattle.tl_bucket.proofs.law.checkpoints_tell_size.Goals as goal
 
 pub returns : goal.returns

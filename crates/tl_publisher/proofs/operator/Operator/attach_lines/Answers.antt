@@ -3,7 +3,7 @@ use Rattle.std.proofs.lemmas.Grind.{common_steps}
 use Rattle.std.specs.Prelude.{Some, option_map}
 use Rattle.std.specs.Global.{Global}
 use Rattle.tl_sequencer.specs.Log.{entries_of}
-use Rattle.tl_publisher.specs.Histories.{Prefix, last_of}
+use Rattle.tl_log.specs.Histories.{Prefix, last_of}
 use Rattle.tl_publisher.specs.Operating.{Operated}
 use Rattle.tl_publisher.proofs.Cosigners.{follows_under}
 use Rattle.tl_publisher.proofs.operator.Operator.attach_lines.Goals as goal

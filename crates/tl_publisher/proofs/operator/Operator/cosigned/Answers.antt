@@ -6,7 +6,7 @@ use Rattle.sha2.specs.Sha256.{sha256}
 use Rattle.tl_hash.specs.Tree.{tree_hash}
 use Rattle.tl_checkpoint.specs.Checkpoint.{checkpoint_text}
 use Rattle.tl_sequencer.specs.Log.{entries_of}
-use Rattle.tl_publisher.specs.Signed.{text_of_log}
+use Rattle.tl_log.specs.Checkpoints.{text_of_log}
 use Rattle.tl_publisher.specs.Operating.{Operated}
 use Rattle.tl_publisher.specs.Proposing.{IsCosigned}
 use Rattle.tl_publisher.specs.Inner.Attaching.{HasBehind}

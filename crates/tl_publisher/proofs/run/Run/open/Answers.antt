@@ -2,7 +2,7 @@ use Rattle.std.proofs.Common.{◌≡◌, ◌<◌, ◌^◌, ◌∙◌, [], List, 
 use Rattle.std.proofs.Math.Seq.{take-length}
 use Rattle.sha2.specs.Sha256.{sha256}
 use Rattle.tl_sequencer.specs.Log.{Log, entries_of}
-use Rattle.tl_publisher.specs.Histories.{Prefix, AreOf, last_size}
+use Rattle.tl_log.specs.Histories.{Prefix, AreOf, last_size}
 use Rattle.tl_publisher.specs.Boards.{Board}
 use Rattle.tl_publisher.specs.Grown.{Grown, IsGrown}
 use Rattle.tl_publisher.specs.Running.{IsRunning}

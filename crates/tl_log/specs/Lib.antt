@@ -1,0 +1,4 @@
+pub mod Histories
+pub mod Resources
+pub mod Pieces
+pub mod Checkpoints
