@@ -17,7 +17,7 @@ use Rattle.tl_archive.specs.Shelves.{Kept}
 use Rattle.tl_ledger.specs.Standing.{Ledger}
 use Rattle.tl_ledger.specs.Keeping.{published}
 use Rattle.tl_ledger.specs.Spent.{LacksSpent}
-use Rattle.tl_command.specs.Mirror.{LogKey, checkpoint_note}
+use Rattle.tl_run.specs.Signing.{LogKey, checkpoint_note}
 use Rattle.tl_append.specs.Appending.{AppendsLines, AppendsSome, AppendsThen, AreBatches, AreFirst, Course, LacksSpentByLast, PrintsHeads, WasThere, WereThere, joined, publication_line, published_after}
 use Rattle.tl_append.specs.Inner.Due.{IsSigned, PrintsDue, PublishesDue, ShowsDue, due_of}
 use Rattle.tl_append.specs.Inner.Owing.{HasEnded, IsOwed, IsSoFar, LeavesLast, LeavesSome}

@@ -12,8 +12,8 @@ use Rattle.tl_archive.specs.Shelves.{Held}
 use Rattle.tl_checkpoint.specs.OpenCheckpoint.{IsSignedCheckpoint}
 use Rattle.tl_ledger.specs.Opening.{IsNamed, IsOfHeld, IsOfNote, IsStated, found_size}
 use Rattle.tl_client.specs.Trusted.{IsTrusted}
-use Rattle.tl_command.specs.Mirror.{LogKey}
-use Rattle.tl_command.specs.declared.keys.LogKey.{LogKey as GivenKey}
+use Rattle.tl_run.specs.Signing.{LogKey}
+use Rattle.tl_run.specs.declared.keys.LogKey.{LogKey as GivenKey}
 use Rattle.tl_append.specs.Cosigning.{HasQuorum}
 use Rattle.tl_append.specs.Inner.Proposals.{IsNewer}
 use Rattle.tl_append.specs.Proposing.{HasProposal, IsNoOlder, IsProposed, IsThere}

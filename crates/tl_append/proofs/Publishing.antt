@@ -16,7 +16,7 @@ use Rattle.tl_archive.proofs.Lists.{has_head}
 use Rattle.tl_ledger.specs.Standing.{Ledger, IsStanding}
 use Rattle.tl_ledger.specs.Keeping.{IsKeeping, published}
 use Rattle.tl_ledger.specs.Spent.{IsShown, LacksSpent}
-use Rattle.tl_command.specs.Mirror.{LogKey, checkpoint_note}
+use Rattle.tl_run.specs.Signing.{LogKey, checkpoint_note}
 use Rattle.tl_append.specs.Appending.{Course, WasThere, head_line}
 use Rattle.tl_append.specs.Inner.Due.{IsSigned, PrintsDue, PublishesDue, ShowsDue, due_of}
 use Rattle.tl_append.specs.Inner.Shedding.{ShedsSpent}

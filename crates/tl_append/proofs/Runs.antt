@@ -13,9 +13,9 @@ use Rattle.tl_archive.specs.Shelves.{Kept}
 use Rattle.tl_ledger.specs.Standing.{Ledger, IsStanding}
 use Rattle.tl_ledger.specs.Keeping.{IsKeeping}
 use Rattle.tl_ledger.specs.Opening.{Found, FoundCollides, Opens}
-use Rattle.tl_command.specs.Mirror.{LogKey, checkpoint_note}
-use Rattle.tl_command.specs.declared.keys.LogKey.{LogKey as GivenKey}
-use Rattle.tl_command.specs.declared.keys.LogKey.TheVariants as given
+use Rattle.tl_run.specs.Signing.{LogKey, checkpoint_note}
+use Rattle.tl_run.specs.declared.keys.LogKey.{LogKey as GivenKey}
+use Rattle.tl_run.specs.declared.keys.LogKey.TheVariants as given
 use Rattle.tl_append.specs.Appending.{AppendsLines, AppendsSome, AppendsThen, AreBatches, joined, published_after}
 use Rattle.tl_append.specs.Running.{GoesOnPart, GoesOnWhole, Grows, HadAll, HasLast, IsLogKey, IsResting, MarksLast, OfFound, Stays, Visit, WroteHeads}
 use Rattle.tl_append.proofs.Turns.{along}

@@ -12,7 +12,7 @@ use Rattle.tl_archive.specs.Shelves.{Kept}
 use Rattle.tl_archive.specs.Complete.{IsSafe}
 use Rattle.tl_ledger.specs.Standing.{Ledger}
 use Rattle.tl_ledger.specs.Opening.{Found, Opens}
-use Rattle.tl_command.specs.Mirror.{LogKey}
+use Rattle.tl_run.specs.Signing.{LogKey}
 use Rattle.tl_append.specs.Cosigning.{HasQuorum, Quorum, Shows, ShowsThen, Turn, entries_of, shown, shown_after}
 use Rattle.tl_append.specs.Running.{OfFound}
 use Rattle.tl_append.proofs.Runs.{between, of_found, resting}

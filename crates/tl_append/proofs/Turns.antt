@@ -18,7 +18,7 @@ use Rattle.tl_archive.proofs.Lists.{has_head}
 use Rattle.tl_ledger.specs.Standing.{Ledger, IsStanding}
 use Rattle.tl_ledger.specs.Keeping.{IsKeeping, published}
 use Rattle.tl_ledger.specs.Spent.{IsShown, RemovesSpent}
-use Rattle.tl_command.specs.Mirror.{LogKey, checkpoint_note}
+use Rattle.tl_run.specs.Signing.{LogKey, checkpoint_note}
 use Rattle.tl_append.specs.Appending.{Appends, AppendsAtMost, AppendsThen, Course, HasCheckpoint, PrintsHeads, joined, publication_line, published_after}
 use Rattle.tl_append.specs.Inner.Turns.{HasShown}
 

@@ -15,7 +15,7 @@ use Rattle.tl_archive.specs.Complete.{IsFor, KeptSafe}
 use Rattle.tl_ledger.specs.Standing.{Ledger}
 use Rattle.tl_ledger.specs.Keeping.{IsKeeping, published}
 use Rattle.tl_ledger.specs.Spent.{LacksSpent}
-use Rattle.tl_command.specs.Mirror.{LogKey, checkpoint_note}
+use Rattle.tl_run.specs.Signing.{LogKey, checkpoint_note}
 
 -- the entries of batches, one after another
 abbrev pub joined : List (List Bytes) → List Bytes

@@ -11,7 +11,7 @@ use Rattle.tl_client.specs.Trusted.{IsTrusted}
 use Rattle.tl_log.specs.Histories.{Prefix}
 use Rattle.tl_archive.specs.Complete.{KeptSafe}
 use Rattle.tl_ledger.specs.Keeping.{IsKeeping, published}
-use Rattle.tl_command.specs.Mirror.{LogKey, checkpoint_note}
+use Rattle.tl_run.specs.Signing.{LogKey, checkpoint_note}
 use Rattle.tl_append.specs.Appending.{Course, IsPutOrNot}
 use Rattle.tl_append.specs.Running.{IsResting, Visit}
 

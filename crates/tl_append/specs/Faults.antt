@@ -1,8 +1,8 @@
 -- What a fault of reading lines is told as, and a log that isn't begun as it is asked to.
 use Rattle.std.specs.Prelude.{Bool, true, false, None, Some, Result, Ok, Err}
-use Rattle.tl_command.specs.declared.fault.RunFault.{RunFault}
-use Rattle.tl_command.specs.declared.fault.RunFault.TheVariants as run
-use Rattle.tl_command.specs.declared.place.Place.TheVariants.{Log}
+use Rattle.tl_run.specs.declared.fault.RunFault.{RunFault}
+use Rattle.tl_run.specs.declared.fault.RunFault.TheVariants as run
+use Rattle.tl_run.specs.declared.place.Place.TheVariants.{Log}
 use Rattle.tl_device.specs.declared.fault.DeviceFault.TheVariants as device
 use Rattle.tl_tile.specs.declared.resource.Resource.TheVariants as resource
 use Rattle.tl_lines.specs.declared.fault.LineFault.{LineFault}

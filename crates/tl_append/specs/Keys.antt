@@ -2,7 +2,7 @@
 use Rattle.tl_note.specs.Key.{Key, SigningKey}
 use Rattle.tl_key.specs.DemoKey.{demo_signing_key, demo_verifier_key}
 use Rattle.tl_key.specs.NoteKey.{signer_key, verifier_key}
-use Rattle.tl_command.specs.Mirror.{LogKey, demo_log_key, seed_log_key}
+use Rattle.tl_run.specs.Signing.{LogKey, demo_log_key, seed_log_key}
 use Rattle.tl_append.specs.declared.keys.LogSigningKey.{LogSigningKey}
 use Rattle.tl_append.specs.declared.keys.LogSigningKey.TheVariants as signing
 use Rattle.tl_append.specs.declared.keys.LogOpeningKey.{LogOpeningKey}

@@ -15,11 +15,11 @@ use Rattle.tl_log.specs.Histories.{Prefix, Begins}
 use Rattle.tl_archive.specs.Shelves.{Kept}
 use Rattle.tl_archive.specs.Complete.{HasAll, IsSafe, KeptSafe}
 use Rattle.tl_ledger.specs.Opening.{Found, FoundCollides, IsLogOf}
-use Rattle.tl_command.specs.Mirror.{LogKey, checkpoint_note, demo_log_key, seed_log_key}
-use Rattle.tl_command.specs.Keys.{IsPrivateFile}
-use Rattle.tl_command.specs.declared.keys.LogKey.{LogKey as GivenKey}
-use Rattle.tl_command.specs.declared.keys.LogKey.TheVariants as given
-use Rattle.tl_command.specs.declared.fault.RunFault.{RunFault}
+use Rattle.tl_run.specs.Signing.{LogKey, checkpoint_note, demo_log_key, seed_log_key}
+use Rattle.tl_run.specs.Keys.{IsPrivateFile}
+use Rattle.tl_run.specs.declared.keys.LogKey.{LogKey as GivenKey}
+use Rattle.tl_run.specs.declared.keys.LogKey.TheVariants as given
+use Rattle.tl_run.specs.declared.fault.RunFault.{RunFault}
 use Rattle.tl_append.specs.Appending.{AreBatches, AreFirst, WasThere, joined, publication_line, published_after}
 use Rattle.tl_append.specs.Proposing.{HasProposal}
 

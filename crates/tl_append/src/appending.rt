@@ -12,7 +12,7 @@ use crate::options::{Batching, Joining};
 use std::alloc::Global;
 use std::io::{Read, Write};
 use tl_archive::Shelf;
-use tl_command::{LogSigner, RunFault};
+use tl_run::{LogSigner, RunFault};
 use tl_device::Counted;
 use tl_ledger::Ledger;
 use tl_lines::Lines;

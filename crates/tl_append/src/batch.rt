@@ -16,7 +16,7 @@ use crate::faults::{unkept, unput};
 use crate::shedding::shed_spent;
 use std::alloc::Global;
 use tl_archive::Shelf;
-use tl_command::{LogSigner, RunFault, sign_checkpoint};
+use tl_run::{LogSigner, RunFault, sign_checkpoint};
 use tl_ledger::Ledger;
 
 /// The most entries of a log.

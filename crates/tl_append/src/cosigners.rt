@@ -6,7 +6,7 @@ ghost use Rattle.tl_append.specs.Cosigning.{HasQuorum};
 use crate::proposal::ProposalStore;
 use std::alloc::Global;
 use tl_client::open_cosigned;
-use tl_command::RunFault;
+use tl_run::RunFault;
 use tl_note::Verifier;
 
 /// Who asks witnesses. Nothing is known of what they answer: they may lie.

@@ -1,14 +1,14 @@
 //! What the faults of lines, of a ledger and of its shelf are told as.
 
 ghost use Rattle.std.specs.Prelude.{◌≡◌, Some};
-ghost use Rattle.tl_command.specs.Faults.{after_device};
-ghost use Rattle.tl_command.specs.declared.place.Place.TheVariants.{Log};
+ghost use Rattle.tl_run.specs.Faults.{after_device};
+ghost use Rattle.tl_run.specs.declared.place.Place.TheVariants.{Log};
 ghost use Rattle.tl_append.specs.Faults.{after_lines};
 ghost use Rattle.tl_append.specs.Inner.Faults.{after_ledger, after_mark, after_open, after_proposal, after_shelf};
 
 use tl_archive::ShelfFault;
 use tl_checkpoint::OpenCheckpointFault;
-use tl_command::{Place, RunFault};
+use tl_run::{Place, RunFault};
 use tl_device::DeviceFault;
 use tl_ledger::{LedgerFault, MarkFault, OpenFault};
 use tl_lines::LineFault;

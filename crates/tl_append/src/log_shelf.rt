@@ -3,7 +3,7 @@
 use crate::keys::LogOpeningKey;
 use std::alloc::Global;
 use tl_archive::Shelf;
-use tl_command::{LogSigner, RunFault};
+use tl_run::{LogSigner, RunFault};
 use tl_ledger::{Found, Ledger};
 
 /// A log that was opened.

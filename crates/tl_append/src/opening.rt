@@ -20,7 +20,7 @@ use std::alloc::Global;
 use std::snapshot::Snapshot;
 use tl_archive::Shelf;
 use tl_checkpoint::open_checkpoint;
-use tl_command::{Place, RunFault};
+use tl_run::{Place, RunFault};
 use tl_device::DeviceFault;
 use tl_ledger::{Found, Ledger, MarkFault, is_named};
 use tl_note::Verifier;

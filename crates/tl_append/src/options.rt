@@ -2,7 +2,7 @@
 
 ghost use Rattle.std.specs.Prelude.{◌≡◌, ◌<◌};
 
-use tl_command::LogKey;
+use tl_run::LogKey;
 
 /// When a batch is published together with what the next one adds, and not by itself: a shelf that waits for its disk
 /// waits half as often then.

@@ -7,7 +7,7 @@ ghost use Rattle.tl_append.specs.Appending.{head_line};
 use base64::engine::general_purpose::STANDARD;
 use std::alloc::Global;
 use std::io::Write;
-use tl_command::{RunFault, print_text};
+use tl_run::{RunFault, print_text};
 use tl_device::Counted;
 use tl_hash::Hash;
 

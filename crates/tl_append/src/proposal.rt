@@ -1,7 +1,7 @@
 //! Who keeps what a log proposes.
 
 use std::alloc::Global;
-use tl_command::RunFault;
+use tl_run::RunFault;
 
 /// Who keeps the signed note of the checkpoint that a log proposes, before anybody sees it (C2SP tlog-checkpoint).
 pub trait ProposalStore {

@@ -18,7 +18,7 @@ use crate::sealing::SealsNotes;
 use crate::shedding::shed_spent;
 use std::alloc::Global;
 use tl_archive::Shelf;
-use tl_command::{LogSigner, RunFault, sign_checkpoint};
+use tl_run::{LogSigner, RunFault, sign_checkpoint};
 use tl_ledger::{Found, Ledger};
 
 // The note of the log's checkpoint by the key, as it is shown.

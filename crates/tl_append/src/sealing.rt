@@ -7,7 +7,7 @@ ghost use Rattle.tl_append.specs.Cosigning.{HasQuorum};
 use crate::cosigners::{AsksCosigners, ChecksCosigned};
 use crate::proposal::ProposalStore;
 use std::alloc::Global;
-use tl_command::RunFault;
+use tl_run::RunFault;
 
 /// Who makes of a log's own note what is shown.
 pub trait SealsNotes {

@@ -6,7 +6,7 @@ ghost use Rattle.tl_append.specs.Inner.Shedding.{ShedsSpent};
 
 use crate::faults::unkept;
 use tl_archive::Shelf;
-use tl_command::RunFault;
+use tl_run::RunFault;
 use tl_ledger::remove_spent;
 
 /// Removes the partial tiles and bundles that are spent since the log had `from` entries (C2SP tlog-tiles, "Partial

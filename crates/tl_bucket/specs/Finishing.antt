@@ -3,9 +3,9 @@ use Rattle.std.specs.Prelude.{◌≡◌, ◌⊎◌, ℕ, ◌+◌, ◌-◌, ◌<�
 use Rattle.tl_append.specs.Appending.{Appends, AppendsThen, Course, course, joined}
 use Rattle.tl_append.specs.Running.{AreLogKeys, Grows, OfFound, visit}
 use Rattle.tl_archive.specs.Shelves.{Held}
-use Rattle.tl_command.specs.Mirror.{LogKey}
-use Rattle.tl_command.specs.declared.fault.RunFault.{RunFault}
-use Rattle.tl_command.specs.declared.keys.LogKey.{LogKey as GivenKey}
+use Rattle.tl_run.specs.Signing.{LogKey}
+use Rattle.tl_run.specs.declared.fault.RunFault.{RunFault}
+use Rattle.tl_run.specs.declared.keys.LogKey.{LogKey as GivenKey}
 use Rattle.tl_folder.specs.Folders.{Reached}
 use Rattle.tl_hash.specs.Bytes.{Bytes}
 use Rattle.tl_ledger.specs.Opening.{Found, IsOfSigned, found_size}

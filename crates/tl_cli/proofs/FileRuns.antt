@@ -2,7 +2,7 @@
 use Rattle.std.proofs.Common.{◌≡◌, ℕ, List, subst}
 use Rattle.std.specs.Prelude.{Option, Result}
 use Rattle.tl_device.specs.Device.{Passage}
-use Rattle.tl_command.specs.declared.fault.RunFault.{RunFault}
+use Rattle.tl_run.specs.declared.fault.RunFault.{RunFault}
 use Rattle.tl_command.specs.Head.{RunsHead}
 use Rattle.tl_command.specs.Open.{RunsOpen}
 use Rattle.tl_evidence.specs.ForkCommand.{RunsFork}

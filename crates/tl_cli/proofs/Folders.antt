@@ -5,7 +5,7 @@ use Rattle.tl_archive.specs.Shelves.{Held}
 use Rattle.tl_ledger.specs.Opening.{Found}
 use Rattle.tl_folder.specs.Events.{Event}
 use Rattle.tl_folder.specs.Folders.{Calls, Reached, after_calls, after_each, at_first, kept_by, traced_by}
-use Rattle.tl_command.specs.declared.fault.RunFault.{RunFault}
+use Rattle.tl_run.specs.declared.fault.RunFault.{RunFault}
 use Rattle.tl_append.specs.Running.{Visit, visit}
 use Rattle.tl_serve.specs.declared.options.ServeOptions.{ServeOptions}
 use Rattle.tl_cli.specs.Lasting.{ServesBy, since_opened}

@@ -4,7 +4,7 @@ use Rattle.std.specs.Prelude.{codes}
 use Rattle.tl_hash.specs.Bytes.{Bytes}
 use Rattle.tl_text.specs.Text.{line}
 use Rattle.tl_tile.specs.declared.resource.Resource.{Resource}
-use Rattle.tl_command.specs.declared.place.Place.{Place}
+use Rattle.tl_run.specs.declared.place.Place.{Place}
 use Rattle.tl_cli.specs.Told.{IsLineAt, IsWhere, resource_of}
 
 -- a line that was made of the place under what the options name

@@ -9,7 +9,7 @@ use Rattle.tl_bucket.specs.Finishing.{FinishesLog}
 use Rattle.tl_bucket.specs.Opened.{BeginsThere, IsAtEnd, KnowsShown, RefusesPuts}
 use Rattle.tl_bucket.specs.declared.fault.BucketFault.{BucketFault}
 use Rattle.tl_command.specs.CheckOpened.{IsIdle}
-use Rattle.tl_command.specs.declared.fault.RunFault.{RunFault}
+use Rattle.tl_run.specs.declared.fault.RunFault.{RunFault}
 use Rattle.tl_device.specs.Device.{Passage, IsUnread}
 use Rattle.tl_folder.specs.Folders.{Reached}
 use Rattle.tl_hash.specs.Bytes.{Bytes}

@@ -4,24 +4,24 @@ use Rattle.sha2.specs.Sha256.{sha256}
 use Rattle.tl_device.specs.Device.{Passage, IsUnread, IsUnwritten}
 use Rattle.tl_archive.specs.Shelves.{Held}
 use Rattle.tl_folder.specs.Folders.{Reached}
-use Rattle.tl_command.specs.Run.{Runs}
+use Rattle.tl_run.specs.Run.{Runs}
 use Rattle.tl_command.specs.Head.{RunsHead}
 use Rattle.tl_command.specs.ProofCommands.{InclusionComes, ConsistencyComes, CheckComes}
 use Rattle.tl_command.specs.AuditCommand.{AuditComes}
-use Rattle.tl_command.specs.declared.fault.RunFault.{RunFault}
+use Rattle.tl_run.specs.declared.fault.RunFault.{RunFault}
 use Rattle.tl_cli.specs.declared.job.Job.{Job}
 use Rattle.tl_cli.specs.declared.job.Job.TheVariants.{Head, Build, BuildSigned, Append, AppendTo, Inclusion, Consistency, Check, CheckUnder, CheckFork, Keygen, KeygenTo, Open, Audit, Serve, ServeFrom, Witness, Fetch, Feed, Version, Help}
-use Rattle.tl_command.specs.Mirror.{demo_log_key}
+use Rattle.tl_run.specs.Signing.{demo_log_key}
 use Rattle.tl_command.specs.Build.{RunsBuild}
 use Rattle.tl_command.specs.Signed.{RunsSigned}
 use Rattle.tl_key.specs.NoteKey.{note_kind, cosignature_kind}
 use Rattle.tl_command.specs.CheckOpened.{IsIdle, RunsCheckOpened}
-use Rattle.tl_command.specs.Keys.{IsFileFault}
+use Rattle.tl_run.specs.Keys.{IsFileFault}
 use Rattle.tl_command.specs.Keygen.{GivesKey}
 use Rattle.tl_command.specs.Open.{RunsOpen}
 use Rattle.tl_fetch.specs.Command.{RunsFetch}
 use Rattle.tl_fetch.specs.FeedCommand.{RunsFeed}
-use Rattle.tl_command.specs.Origins.{RefusesOrigin}
+use Rattle.tl_run.specs.Origins.{RefusesOrigin}
 use Rattle.tl_hash.specs.Bytes.{Bytes}
 use Rattle.tl_fetch.specs.declared.fault.FetchFault.{FetchFault}
 use Rattle.tl_cli.specs.declared.fault.CommandFault.{CommandFault}

@@ -6,7 +6,7 @@ use Rattle.tl_ledger.specs.Opening.{Found}
 use Rattle.tl_folder.specs.Step.{Path}
 use Rattle.tl_folder.specs.Folders.{Calls, Reached, at_first, kept_by, traced_by}
 use Rattle.tl_command.specs.CheckOpened.{IsIdle}
-use Rattle.tl_command.specs.declared.fault.RunFault.{RunFault}
+use Rattle.tl_run.specs.declared.fault.RunFault.{RunFault}
 use Rattle.tl_append.specs.Running.{BeginsAsAsked, GoesOn, Visit, batch_size}
 use Rattle.tl_append.specs.declared.options.AppendOptions.{AppendOptions}
 use Rattle.tl_append.specs.Cosigning.{Quorum}

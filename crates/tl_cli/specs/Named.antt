@@ -1,10 +1,10 @@
 -- What the options of a job name: the file, the folder, the address or the option that a fault is over.
 use Rattle.std.specs.Prelude.{ℕ, List, Option, Some, None, String, codes, option_map, slice_get, string_bytes, vec_items}
 use Rattle.tl_hash.specs.Bytes.{Bytes}
-use Rattle.tl_command.specs.declared.place.Place.{Place}
-use Rattle.tl_command.specs.declared.place.Place.TheVariants as place
-use Rattle.tl_command.specs.declared.keys.LogKey.{LogKey}
-use Rattle.tl_command.specs.declared.keys.LogKey.TheVariants as key
+use Rattle.tl_run.specs.declared.place.Place.{Place}
+use Rattle.tl_run.specs.declared.place.Place.TheVariants as place
+use Rattle.tl_run.specs.declared.keys.LogKey.{LogKey}
+use Rattle.tl_run.specs.declared.keys.LogKey.TheVariants as key
 use Rattle.tl_fetch.specs.declared.fault.Address.{Address}
 use Rattle.tl_fetch.specs.declared.fault.Address.TheVariants.{From, To}
 use Rattle.tl_serve.specs.declared.options.WitnessSignerKey.{WitnessSignerKey}

@@ -7,11 +7,11 @@ use Rattle.tl_tile.specs.Path.{IsResource}
 use Rattle.tl_tile.specs.declared.resource.Resource.{Resource}
 use Rattle.tl_device.specs.Device.{Passage, IsUnwritten, WroteWhole, WrotePart}
 use Rattle.tl_device.specs.Faults.{device_words}
-use Rattle.tl_command.specs.Faults.{fault_text, nothing_words, place_words}
-use Rattle.tl_command.specs.declared.place.Place.{Place}
-use Rattle.tl_command.specs.declared.place.Place.TheVariants as place
-use Rattle.tl_command.specs.declared.fault.RunFault.{RunFault}
-use Rattle.tl_command.specs.declared.fault.RunFault.TheVariants.{Device, BadCheckpoint, BadKey, BadKeyFile, NothingThere}
+use Rattle.tl_run.specs.Faults.{fault_text, nothing_words, place_words}
+use Rattle.tl_run.specs.declared.place.Place.{Place}
+use Rattle.tl_run.specs.declared.place.Place.TheVariants as place
+use Rattle.tl_run.specs.declared.fault.RunFault.{RunFault}
+use Rattle.tl_run.specs.declared.fault.RunFault.TheVariants.{Device, BadCheckpoint, BadKey, BadKeyFile, NothingThere}
 use Rattle.tl_fetch.specs.FaultWords.{fetch_text}
 use Rattle.tl_fetch.specs.declared.fault.FetchFault.TheVariants as fetch
 use Rattle.tl_source.specs.Asking.{IsTarget}

@@ -3,8 +3,8 @@ use Rattle.std.specs.Prelude.{codes, Result, Ok, Err}
 use Rattle.tl_hash.specs.Bytes.{Bytes}
 use Rattle.tl_text.specs.Text.{line}
 use Rattle.tl_device.specs.Device.{Passage, WroteWhole, WrotePart}
-use Rattle.tl_command.specs.declared.fault.RunFault.{RunFault}
-use Rattle.tl_command.specs.declared.fault.RunFault.TheVariants.{Write}
+use Rattle.tl_run.specs.declared.fault.RunFault.{RunFault}
+use Rattle.tl_run.specs.declared.fault.RunFault.TheVariants.{Write}
 
 -- the program's name and version, and the kit that it is proved with
 abbrev pub version_line : Bytes

@@ -7,7 +7,8 @@ ghost use Rattle.tl_cli.specs.Job.{ChecksEntryIn, ChecksFile, ChecksGiven};
 use std::alloc::Global;
 use std::fs::Files;
 use std::io::{Read, Write};
-use tl_command::{CheckOptions, GivenEntry, RunFault, read_file, run_check_opened};
+use tl_command::{CheckOptions, GivenEntry, run_check_opened};
+use tl_run::{RunFault, read_file};
 use tl_device::Counted;
 
 // Checks the proof of the input, about this entry, if one is given, against the checkpoint in a file.

@@ -2,12 +2,12 @@
 
 ghost use Rattle.std.specs.Prelude.{◌≡◌};
 ghost use Rattle.tl_cli.specs.declared.fault.CommandFault.TheVariants.{Run};
-ghost use Rattle.tl_command.specs.declared.fault.RunFault.TheVariants.{OutOfMemory};
+ghost use Rattle.tl_run.specs.declared.fault.RunFault.TheVariants.{OutOfMemory};
 ghost use Rattle.tl_cli.specs.Ending.{by_fetch, by_run, by_witness, command_status, witness_status};
 
 use std::alloc::{AllocError, AllocFailed};
 use tl_bucket::BucketFault;
-use tl_command::{Place, RunFault, exit_of};
+use tl_run::{Place, RunFault, exit_of};
 use tl_device::DeviceFault;
 use tl_fetch::{FetchFault, fetch_exit_of};
 use tl_serve::WitnessFault;

@@ -23,7 +23,7 @@ use std::random::RandomSource;
 use std::time::Clock;
 use tl_append::{AppendOptions, AsSigned, Joining, NoProposals, SealedShelf, run_append};
 use tl_bucket::{BucketShelf, PutsTogether, finish_log};
-use tl_command::RunFault;
+use tl_run::RunFault;
 use tl_device::Counted;
 use tl_folder::CrashOutcome;
 use tl_ledger::Found;

@@ -5,7 +5,8 @@ use std::alloc::Global;
 use std::fs::{File, Files, OpenOptions, Permissions, remove_file};
 use std::os::unix::fs::{OpenOptionsExt, PermissionsExt};
 use std::random::RandomSource;
-use tl_command::{KeygenOptions, RunFault, run_keygen};
+use tl_command::{KeygenOptions, run_keygen};
+use tl_run::RunFault;
 use tl_device::{Counted, DeviceFault};
 use tl_key::{Cosignature, Note};
 

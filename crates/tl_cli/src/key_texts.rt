@@ -5,7 +5,7 @@ ghost use Rattle.std.specs.Prelude.{◌≡◌, ◌⊎◌};
 use std::alloc::{AllocError, AllocFailed, Global};
 use std::fs::Files;
 use std::io::Write;
-use tl_command::{RunFault, read_file};
+use tl_run::{RunFault, read_file};
 use tl_device::{Counted, write_whole};
 
 /// Why the text of a key isn't read from its file.

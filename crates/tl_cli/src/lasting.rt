@@ -3,7 +3,7 @@
 ghost use Rattle.std.specs.Prelude.{◌↔◌, IsTrue, string_bytes};
 ghost use Rattle.tl_serve.specs.Knowing.{MayServe, RefusesLog};
 ghost use Rattle.tl_device.specs.Device.{passage};
-ghost use Rattle.tl_command.specs.Origins.{RefusesOrigin};
+ghost use Rattle.tl_run.specs.Origins.{RefusesOrigin};
 ghost use Rattle.tl_cli.specs.Inner.Compacting.{CompactsFile};
 ghost use Rattle.tl_cli.specs.Lasting.{AppendsIn, ServesIn, SparesStreams};
 
@@ -16,7 +16,7 @@ use std::io::{Read, Write};
 use std::net::{Net, TcpListener, TcpStream};
 use std::os::fd::RawFd;
 use tl_append::{AppendOptions, Joining, run_append};
-use tl_command::{Place, RunFault, print_text};
+use tl_run::{Place, RunFault, print_text};
 use tl_device::{Counted, DeviceFault};
 use tl_folder::{CrashOutcome, DurableAppend, LineStream, stream_lines};
 use tl_hash::Sha256Tree;

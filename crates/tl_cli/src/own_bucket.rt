@@ -14,7 +14,7 @@ use std::net::{Net, TcpStream};
 use std::random::RandomSource;
 use std::time::Clock;
 use tl_bucket::{BucketFault, BucketShelf, Client};
-use tl_command::{RunFault, read_file};
+use tl_run::{RunFault, read_file};
 use tl_device::DeviceFault;
 use tl_folder::CrashOutcome;
 use tl_sigv4::Credential;

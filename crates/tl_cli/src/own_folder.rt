@@ -6,7 +6,7 @@ ghost use Rattle.tl_cli.specs.Lasting.{IsAt};
 use std::alloc::Global;
 use std::fs::{File, Files};
 use std::marker::Model;
-use tl_command::{Place, RunFault};
+use tl_run::{Place, RunFault};
 use tl_device::DeviceFault;
 use tl_folder::{CrashOutcome, FolderLock, FolderShelf, has_log, lock_folder};
 use tl_ledger::Found;

@@ -5,7 +5,7 @@ ghost use Rattle.std.specs.Prelude.{◌≡◌};
 use std::alloc::{AllocError, Global};
 use std::fs::{File, Files, symlink_metadata};
 use tl_append::ProposalStore;
-use tl_command::{Place, RunFault};
+use tl_run::{Place, RunFault};
 use tl_device::{DeviceFault, read_plain};
 use tl_folder::AtomicFile;
 

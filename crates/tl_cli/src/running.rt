@@ -7,7 +7,7 @@ ghost use Rattle.tl_command.specs.Head.{RunsHead};
 ghost use Rattle.tl_cli.specs.Job.{BuildsDemo, BuildsSigned, EndsWords, RunsJob, key_kind};
 ghost use Rattle.tl_command.specs.Keygen.{GivesKey};
 ghost use Rattle.tl_command.specs.ProofCommands.{InclusionComes, ConsistencyComes};
-ghost use Rattle.tl_command.specs.Run.{Runs};
+ghost use Rattle.tl_run.specs.Run.{Runs};
 ghost use Rattle.tl_cli.specs.Ending.{Told, status_of};
 ghost use Rattle.tl_cli.specs.Told.{Tells};
 
@@ -31,11 +31,8 @@ use std::net::{Net, TcpListener, TcpStream};
 use std::random::RandomSource;
 use std::thread::{Threads, available_parallelism};
 use tl_bucket::PutsTogether;
-use tl_command::{
-    BuildOptions, HeadOptions, HmacLogSigner, KeygenOptions, RunFault, SignedOptions, read_file,
-    run_audit, run_build, run_build_signed, run_check, run_consistency, run_head, run_inclusion,
-    run_keygen, run_open,
-};
+use tl_command::{BuildOptions, HeadOptions, KeygenOptions, SignedOptions, run_audit, run_build, run_build_signed, run_check, run_consistency, run_head, run_inclusion, run_keygen, run_open};
+use tl_run::{HmacLogSigner, RunFault, read_file};
 use tl_device::{Counted, write_whole};
 use tl_evidence::run_check_fork;
 use tl_fetch::{run_feed, run_fetch};

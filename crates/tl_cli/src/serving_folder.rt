@@ -3,7 +3,7 @@
 ghost use Rattle.std.specs.Prelude.{◌≡◌, None, string_bytes};
 ghost use Rattle.tl_device.specs.Device.{passage};
 ghost use Rattle.tl_folder.specs.Folders.{kept_by, traced_by};
-ghost use Rattle.tl_command.specs.Origins.{RefusesOrigin};
+ghost use Rattle.tl_run.specs.Origins.{RefusesOrigin};
 ghost use Rattle.tl_append.specs.Running.{visit};
 ghost use Rattle.tl_serve.specs.Asking.{ServesCosigned};
 ghost use Rattle.tl_serve.specs.Serving.{Serves};
@@ -17,7 +17,7 @@ use std::io::{Read, Write};
 use std::net::{Net, TcpListener, TcpStream};
 use std::os::fd::RawFd;
 use tl_append::{AsSigned, SealedShelf};
-use tl_command::RunFault;
+use tl_run::RunFault;
 use tl_device::Counted;
 use tl_folder::{CrashOutcome, FolderShelf};
 use tl_ledger::Found;

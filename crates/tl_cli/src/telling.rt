@@ -5,8 +5,8 @@ ghost use Rattle.tl_text.specs.Text.{line};
 ghost use Rattle.tl_device.specs.Device.{passage};
 ghost use Rattle.tl_device.specs.Faults.{device_words};
 ghost use Rattle.tl_bucket.specs.FaultWords.{bucket_words};
-ghost use Rattle.tl_command.specs.Faults.{nothing_words};
-ghost use Rattle.tl_command.specs.declared.place.Place.TheVariants.{Log};
+ghost use Rattle.tl_run.specs.Faults.{nothing_words};
+ghost use Rattle.tl_run.specs.declared.place.Place.TheVariants.{Log};
 ghost use Rattle.tl_cli.specs.Named.{address_of, base_of, credentials_of, log_of, logs_file, new_key_of};
 ghost use Rattle.tl_cli.specs.Told.{IsLineAt, IsLineOf, IsLineOfRun, IsLineOfWitness, IsWhere, TellsFault, Wrote, address_line, address_words, credentials_line, is_secure, key_path, line_or_none, logs_line, resource_of};
 
@@ -18,7 +18,7 @@ use crate::naming::{
 use std::alloc::{AllocError, Allocator};
 use std::io::Write;
 use tl_bucket::BucketFault;
-use tl_command::{Place, RunFault, fault_line};
+use tl_run::{Place, RunFault, fault_line};
 use tl_device::{Counted, DeviceFault, write_whole};
 use tl_fetch::{Address, FetchFault, fetch_fault_line};
 use tl_serve::WitnessFault;

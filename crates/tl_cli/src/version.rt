@@ -4,7 +4,7 @@ ghost use Rattle.tl_device.specs.Device.{passage};
 ghost use Rattle.tl_cli.specs.Version.{PrintsText, PrintsVersion};
 
 use std::io::Write;
-use tl_command::{RunFault, print_text};
+use tl_run::{RunFault, print_text};
 use tl_device::Counted;
 
 // The program's version, and the kit that it is proved with. The formats that it reads and writes have versions of

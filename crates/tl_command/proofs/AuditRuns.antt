@@ -6,7 +6,7 @@ use Rattle.tl_hash.specs.Bytes.{Digest}
 use Rattle.tl_device.specs.Device.{Passage, ReadWhole, WroteWhole}
 use Rattle.tl_command.specs.AuditCommand.{AuditComes, AuditRefuses}
 use Rattle.tl_command.specs.Inner.Answers.{AnswersAuditText}
-use Rattle.tl_command.specs.Run.{Prints, PrintsRefusal, Wrote, most_input}
+use Rattle.tl_run.specs.Run.{Prints, PrintsRefusal, Wrote, most_input}
 use Rattle.tl_command.specs.declared.commands.audit.Answer.{Answer}
 
 -- the answer is yes

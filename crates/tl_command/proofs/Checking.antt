@@ -5,11 +5,11 @@ use Rattle.tl_device.specs.Device.{Passage, ReadWhole}
 use Rattle.tl_command.specs.Lines.{lines_text}
 use Rattle.tl_command.specs.ProofText.{Proof}
 use Rattle.tl_command.specs.ProofCommands.{ChecksBy, Subject, Shows, IsAbout}
-use Rattle.tl_command.specs.Run.{Output, Prints, PrintsRefusal, most_input, CameOf, Runs}
+use Rattle.tl_run.specs.Run.{Output, Prints, PrintsRefusal, most_input, CameOf, Runs}
 use Rattle.tl_command.specs.Inner.Checks.{FindsInText, IsFinding, IsFindingAbout, PrintsAnswer, answer_line}
 use Rattle.tl_command.specs.declared.commands.check.Finding.{Finding}
-use Rattle.tl_command.specs.declared.fault.RunFault.{RunFault}
-use Rattle.tl_command.specs.declared.fault.RunFault.TheVariants.{Refused, Read, Write, TooLarge, EntryTooLong, BadOrigin, BadIndex, BadOld, BadPath, NotThere, Malformed, Chain, Sign, Operator, Listen, Accept, OutOfMemory, BadName, BadKey, BadCheckpoint, WrongSignature, Unverified, Device, BadKeyFile, NothingThere}
+use Rattle.tl_run.specs.declared.fault.RunFault.{RunFault}
+use Rattle.tl_run.specs.declared.fault.RunFault.TheVariants.{Refused, Read, Write, TooLarge, EntryTooLong, BadOrigin, BadIndex, BadOld, BadPath, NotThere, Malformed, Chain, Sign, Operator, Listen, Accept, OutOfMemory, BadName, BadKey, BadCheckpoint, WrongSignature, Unverified, Device, BadKeyFile, NothingThere}
 
 -- what is to come of a text that was read, where what was found tells whether its proof is good
 abbrev pub good_output : Bool → Output

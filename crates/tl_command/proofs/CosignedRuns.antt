@@ -12,14 +12,14 @@ use Rattle.tl_note.specs.declared.fault.NoteFault.TheVariants as note
 use Rattle.tl_checkpoint.specs.Cosignature.{IsCosignature, IsOfKey}
 use Rattle.tl_key.specs.KeyText.{IsVerifierText}
 use Rattle.tl_key.specs.NoteKey.{PublicKey, cosignature_kind, verifier_key}
-use Rattle.tl_command.specs.Run.{Runs, most_input}
+use Rattle.tl_run.specs.Run.{Runs, most_input}
 use Rattle.tl_command.specs.Open.{OpensCosigned, RunsOpen, after_note}
 use Rattle.tl_command.specs.OpenCosigned.{CosignedComes, IsFirst, IsMessageOf}
 use Rattle.tl_command.specs.Inner.Cosigned.{Finds, GivesMessage}
 use Rattle.tl_command.specs.declared.commands.cosigned.Found.{Found}
 use Rattle.tl_command.specs.declared.commands.cosigned.Found.TheVariants.{Time, Wrong, Nothing}
-use Rattle.tl_command.specs.declared.fault.RunFault.{RunFault}
-use Rattle.tl_command.specs.declared.fault.RunFault.TheVariants.{Refused, Read, Write, TooLarge, EntryTooLong, BadOrigin, BadIndex, BadOld, BadPath, NotThere, Malformed, Chain, Sign, Operator, Listen, Accept, OutOfMemory, BadName, BadKey, BadCheckpoint, WrongSignature, Unverified, Device, BadKeyFile, NothingThere}
+use Rattle.tl_run.specs.declared.fault.RunFault.{RunFault}
+use Rattle.tl_run.specs.declared.fault.RunFault.TheVariants.{Refused, Read, Write, TooLarge, EntryTooLong, BadOrigin, BadIndex, BadOld, BadPath, NotThere, Malformed, Chain, Sign, Operator, Listen, Accept, OutOfMemory, BadName, BadKey, BadCheckpoint, WrongSignature, Unverified, Device, BadKeyFile, NothingThere}
 use Rattle.tl_command.proofs.NoteBytes.{note_some}
 use Rattle.tl_command.proofs.Runs.{printed}
 

@@ -11,8 +11,8 @@ use Rattle.tl_tile.specs.Bundle.{AreShortEntries, IsShortEntry}
 use Rattle.tl_command.specs.Inner.Cuts.{AreWholeLines}
 use Rattle.tl_command.specs.Inner.Growing.{BeginsWith, IsEdgeFault}
 use Rattle.tl_command.specs.Lines.{entries_of, first_too_long, lines_text, HasNoNewline}
-use Rattle.tl_command.specs.declared.fault.RunFault.{RunFault}
-use Rattle.tl_command.specs.declared.fault.RunFault.TheVariants.{Refused, Read, Write, TooLarge, EntryTooLong, BadOrigin, BadIndex, BadOld, BadPath, NotThere, Malformed, Chain, Sign, Operator, Listen, Accept, OutOfMemory, BadName, BadKey, BadCheckpoint, WrongSignature, Unverified, Device, BadKeyFile, NothingThere}
+use Rattle.tl_run.specs.declared.fault.RunFault.{RunFault}
+use Rattle.tl_run.specs.declared.fault.RunFault.TheVariants.{Refused, Read, Write, TooLarge, EntryTooLong, BadOrigin, BadIndex, BadOld, BadPath, NotThere, Malformed, Chain, Sign, Operator, Listen, Accept, OutOfMemory, BadName, BadKey, BadCheckpoint, WrongSignature, Unverified, Device, BadKeyFile, NothingThere}
 use Rattle.tl_command.proofs.GrowingLemmas.{at_some, empty_list, entries_of_last, entries_so_far, none_found, place_in, push_after, push_long, push_short, some_at}
 use Rattle.tl_command.proofs.LinesLemmas.{entries_of_nothing}
 use Rattle.tl_command.proofs.LineTexts.{entries_of_lines}

@@ -10,21 +10,22 @@ use Rattle.tl_device.specs.declared.fault.DeviceFault.TheVariants as device
 use Rattle.tl_command.specs.AuditCommand.{AuditComes}
 use Rattle.tl_command.specs.Build.{RunsBuild}
 use Rattle.tl_command.specs.CheckOpened.{IsIdle, RunsCheckOpened, RunsUnder}
-use Rattle.tl_command.specs.Faults.{after_device}
-use Rattle.tl_command.specs.Keys.{IsFileFault, ReadsKey, ReadsPrivate}
+use Rattle.tl_run.specs.Faults.{after_device}
+use Rattle.tl_run.specs.Keys.{IsFileFault, ReadsKey, ReadsPrivate}
 use Rattle.tl_command.specs.Open.{OpensSigned}
-use Rattle.tl_command.specs.Mirror.{LogKey}
+use Rattle.tl_run.specs.Signing.{LogKey}
 use Rattle.tl_command.specs.ProofCommands.{ChecksBy}
 use Rattle.tl_command.specs.ProofText.{Proof}
-use Rattle.tl_command.specs.Run.{Output, ReadingFails, ReadsEntries, Runs, most_input}
+use Rattle.tl_run.specs.Run.{Output, ReadingFails, Runs, most_input}
+use Rattle.tl_command.specs.Entries.{ReadsEntries}
 use Rattle.tl_command.specs.Signed.{RunsSigned}
 use Rattle.tl_command.specs.Inner.Answers.{AnswersAuditText}
 use Rattle.tl_command.specs.Inner.Checks.{FindsInText}
 use Rattle.tl_command.specs.Inner.Notes.{OpensBytes}
 use Rattle.tl_command.specs.Inner.Steps.{ReadsPath}
-use Rattle.tl_command.specs.declared.fault.RunFault.{RunFault}
-use Rattle.tl_command.specs.declared.place.Place.TheVariants.{File}
-use Rattle.tl_command.specs.declared.fault.RunFault.TheVariants.{Refused, Read, Write, TooLarge, EntryTooLong, BadOrigin, BadIndex, BadOld, BadPath, NotThere, Malformed, Chain, Sign, Operator, Listen, Accept, OutOfMemory, BadName, BadKey, BadCheckpoint, WrongSignature, Unverified, Device, BadKeyFile, NothingThere}
+use Rattle.tl_run.specs.declared.fault.RunFault.{RunFault}
+use Rattle.tl_run.specs.declared.place.Place.TheVariants.{File}
+use Rattle.tl_run.specs.declared.fault.RunFault.TheVariants.{Refused, Read, Write, TooLarge, EntryTooLong, BadOrigin, BadIndex, BadOld, BadPath, NotThere, Malformed, Chain, Sign, Operator, Listen, Accept, OutOfMemory, BadName, BadKey, BadCheckpoint, WrongSignature, Unverified, Device, BadKeyFile, NothingThere}
 
 -- what a call failed with is handed on
 pub handed_on : (Holds : Result (Unit {0}) RunFault → Type 0) (r : Result (Unit {0}) RunFault) (given fault : RunFault) → IsErrAnd r (λ e. e ≡ given) → given ≡ fault → Holds (Err fault) → Holds r
@@ -291,31 +292,3 @@ open_key_fails text i o Unverified unread none given = absurd given
 open_key_fails text i o (Device place why) unread none given = absurd given
 open_key_fails text i o BadKeyFile unread none given = absurd given
 open_key_fails text i o (NothingThere _) unread none given = absurd given
-
--- a file can't be read
-pub file_fails : (fault : DeviceFault) → IsFileFault (after_device File fault)
-file_fails device.NotThere = tt
-file_fails device.Taken = tt
-file_fails device.Denied = tt
-file_fails device.ReadOnly = tt
-file_fails device.Full = tt
-file_fails device.NotPlain = tt
-file_fails device.NotFolder = tt
-file_fails device.Moved = tt
-file_fails device.Busy = tt
-file_fails device.TooLarge = tt
-file_fails device.Damaged = tt
-file_fails device.Older = tt
-file_fails device.NoHost = tt
-file_fails device.NoConnection = tt
-file_fails device.Unreachable = tt
-file_fails device.TimedOut = tt
-file_fails device.Broken = tt
-file_fails (device.Status code) = tt
-file_fails device.NotHttp = tt
-file_fails device.Encoded = tt
-file_fails device.BadLength = tt
-file_fails device.BadChunk = tt
-file_fails device.CutShort = tt
-file_fails device.OutOfMemory = tt
-file_fails device.System = tt

@@ -16,9 +16,9 @@ use Rattle.sha2.specs.Sha256.{sha256}
 use Rattle.tl_tile.specs.RightEdge.{EdgeContents, IsEdgeOf}
 use Rattle.tl_device.specs.Device.{Passage, ReadWhole}
 use Rattle.tl_command.specs.Inner.Growing.{IsGrowing, IsOutcome, IsTold, ReadsEdge}
-use Rattle.tl_command.specs.Run.{most_input}
-use Rattle.tl_command.specs.declared.fault.RunFault.{RunFault}
-use Rattle.tl_command.specs.declared.fault.RunFault.TheVariants.{Refused, Read, Write, TooLarge, EntryTooLong, BadOrigin, BadIndex, BadOld, BadPath, NotThere, Malformed, Chain, Sign, Operator, Listen, Accept, OutOfMemory, BadName, BadKey, BadCheckpoint, WrongSignature, Unverified, Device, BadKeyFile, NothingThere}
+use Rattle.tl_run.specs.Run.{most_input}
+use Rattle.tl_run.specs.declared.fault.RunFault.{RunFault}
+use Rattle.tl_run.specs.declared.fault.RunFault.TheVariants.{Refused, Read, Write, TooLarge, EntryTooLong, BadOrigin, BadIndex, BadOld, BadPath, NotThere, Malformed, Chain, Sign, Operator, Listen, Accept, OutOfMemory, BadName, BadKey, BadCheckpoint, WrongSignature, Unverified, Device, BadKeyFile, NothingThere}
 use Rattle.tl_command.specs.declared.growing.Growing.{Growing}
 use Rattle.tl_command.specs.Lines.{entries_of, first_too_long, is_too_long, lines_text, HasNoNewline}
 use Rattle.tl_command.proofs.LinesLemmas.{entries_without_newline}

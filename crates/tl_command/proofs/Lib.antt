@@ -18,14 +18,12 @@ pub mod Runs
 pub mod Failing
 pub mod CosignedRuns
 pub mod KeyRuns
-pub mod PrivateFiles
 pub mod ProofRuns
 pub mod NeededParts
 pub mod Bundles
 pub mod Lengths
 pub mod MeasuringLemmas
 pub mod TileHashes
-pub mod Names
 pub mod Wanted
 pub mod SignedRuns
 pub mod Counting

@@ -10,7 +10,7 @@ use Rattle.tl_checkpoint.specs.declared.checkpoint.CheckpointFault.{CheckpointFa
 use Rattle.tl_checkpoint.specs.declared.checkpoint.CheckpointFault.TheVariants as checkpoint
 use Rattle.tl_checkpoint.specs.declared.opening.OpenCheckpointFault.{OpenCheckpointFault}
 use Rattle.tl_checkpoint.specs.declared.opening.OpenCheckpointFault.TheVariants.{Unopened, NoCheckpoint, OutOfMemory}
-use Rattle.tl_command.specs.declared.fault.RunFault.{RunFault}
+use Rattle.tl_run.specs.declared.fault.RunFault.{RunFault}
 use Rattle.tl_command.specs.CheckOpened.{IsNoCheckpoint}
 use Rattle.tl_command.specs.Inner.Notes.{OpensBytes, after_opening}
 use Rattle.tl_checkpoint.proofs.OtherTexts.{no_text}

@@ -4,8 +4,9 @@ use Rattle.tl_device.specs.Device.{Passage}
 use Rattle.tl_command.specs.Lines.{first_too_long}
 use Rattle.tl_command.specs.ProofText.{inclusion_text, consistency_text}
 use Rattle.tl_command.specs.ProofCommands.{InclusionComes, inclusion_of, ConsistencyComes, consistency_of}
-use Rattle.tl_command.specs.Run.{Prints, Fails, CameOf, ReadEntries, most_input}
-use Rattle.tl_command.specs.declared.fault.RunFault.TheVariants.{BadIndex, BadOld}
+use Rattle.tl_run.specs.Run.{Prints, Fails, CameOf, most_input}
+use Rattle.tl_command.specs.Entries.{ReadEntries}
+use Rattle.tl_run.specs.declared.fault.RunFault.TheVariants.{BadIndex, BadOld}
 
 -- the text of the proof of the line at this index
 pub inclusion_came : (index : ℕ) (i : Passage) (entries : List (List ℕ)) (text bytes : List ℕ) → ReadEntries i most_input entries → index < length entries

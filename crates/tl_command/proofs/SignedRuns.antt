@@ -3,11 +3,11 @@ use Rattle.std.proofs.Common.{◌≡◌, ℕ, List}
 use Rattle.std.specs.Prelude.{Option, Result, Ok, Err}
 use Rattle.tl_device.specs.Device.{Passage}
 use Rattle.tl_key.specs.NoteKey.{SeedKey, note_kind}
-use Rattle.tl_command.specs.declared.fault.RunFault.{RunFault}
-use Rattle.tl_command.specs.declared.fault.RunFault.TheVariants as fault
-use Rattle.tl_command.specs.Mirror.{seed_log_key}
+use Rattle.tl_run.specs.declared.fault.RunFault.{RunFault}
+use Rattle.tl_run.specs.declared.fault.RunFault.TheVariants as fault
+use Rattle.tl_run.specs.Signing.{seed_log_key}
 use Rattle.tl_command.specs.Build.{RunsBuild}
-use Rattle.tl_command.specs.Keys.{IsPrivateFile}
+use Rattle.tl_run.specs.Keys.{IsPrivateFile}
 use Rattle.tl_command.specs.Signed.{RunsSigned}
 
 -- a run under the key of a file is one of the file

@@ -15,12 +15,14 @@ use Rattle.tl_tile.proofs.OnePath.{only_path}
 use Rattle.tl_tile.proofs.TileTexts.{scaled_le}
 use Rattle.tl_device.specs.Device.{Passage, IsSteady, IsUnwritten, WrotePart, WroteWhole}
 use Rattle.tl_command.specs.Lines.{entries_of, first_too_long}
-use Rattle.tl_command.specs.Run.{Output, Prints, PrintsRefusal, Fails, Runs, CameOf, IsAsking, ReadEntries, Wrote, WroteSome, most_input}
-use Rattle.tl_command.specs.declared.fault.RunFault.{RunFault}
-use Rattle.tl_command.specs.declared.fault.RunFault.TheVariants as fault
+use Rattle.tl_run.specs.Run.{Output, Prints, PrintsRefusal, Fails, Runs, CameOf, IsAsking, Wrote, WroteSome, most_input}
+use Rattle.tl_command.specs.Entries.{ReadEntries}
+use Rattle.tl_run.specs.declared.fault.RunFault.{RunFault}
+use Rattle.tl_run.specs.declared.fault.RunFault.TheVariants as fault
 use Rattle.tl_command.proofs.Asking.{gave_entry, none_too_long}
 use Rattle.tl_command.proofs.LinesLemmas.{length-entries_of, entries_of_nothing}
-use Rattle.tl_command.specs.Mirror.{LogKey, checkpoint_note, mirrored, resource_text, listing_text}
+use Rattle.tl_run.specs.Signing.{LogKey, checkpoint_note}
+use Rattle.tl_command.specs.Mirror.{mirrored, resource_text, listing_text}
 use Rattle.tl_command.specs.Build.{IsPrinted, IsMissing, BuildComes, IsLawfulPath, RunsBuild}
 use Rattle.sha2.specs.Sha256.{sha256}
 use Rattle.tl_hash.specs.Tree.{tree_hash}

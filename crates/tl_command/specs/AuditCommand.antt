@@ -8,8 +8,8 @@ use Rattle.tl_proof.specs.Audit.{AreAccepted}
 use Rattle.tl_proof.specs.Collisions.{IsPrefix, Exhibits, audit_inputs}
 use Rattle.tl_proof.specs.Acceptance.{Step}
 use Rattle.tl_command.specs.AuditText.{Audit, IsAudit, audit_text}
-use Rattle.tl_command.specs.Run.{Output, Prints, PrintsRefusal, Fails}
-use Rattle.tl_command.specs.declared.fault.RunFault.TheVariants.{Malformed}
+use Rattle.tl_run.specs.Run.{Output, Prints, PrintsRefusal, Fails}
+use Rattle.tl_run.specs.declared.fault.RunFault.TheVariants.{Malformed}
 
 -- the one step of an audit: to the new list's size and root by the proof
 abbrev pub audited_steps : Digest → Audit → List Step

@@ -6,10 +6,12 @@ use Rattle.tl_tile.specs.declared.resource.Resource.{Resource}
 use Rattle.tl_tile.specs.Path.{IsResource, path_text}
 use Rattle.tl_device.specs.Device.{Passage, IsUnread, IsUnwritten}
 use Rattle.tl_command.specs.Lines.{entries_of, first_too_long}
-use Rattle.tl_command.specs.Run.{Output, Prints, PrintsRefusal, Fails, Runs, IsEntryFault}
-use Rattle.tl_command.specs.declared.fault.RunFault.{RunFault}
-use Rattle.tl_command.specs.declared.fault.RunFault.TheVariants.{BadOrigin, BadPath, NotThere}
-use Rattle.tl_command.specs.Mirror.{LogKey, checkpoint_note, mirrored, resource_text, listing_text}
+use Rattle.tl_run.specs.Run.{Output, Prints, PrintsRefusal, Fails, Runs}
+use Rattle.tl_command.specs.Entries.{IsEntryFault}
+use Rattle.tl_run.specs.declared.fault.RunFault.{RunFault}
+use Rattle.tl_run.specs.declared.fault.RunFault.TheVariants.{BadOrigin, BadPath, NotThere}
+use Rattle.tl_run.specs.Signing.{LogKey, checkpoint_note}
+use Rattle.tl_command.specs.Mirror.{mirrored, resource_text, listing_text}
 
 -- a resource of the log of these entries has this path, and this is its text
 pub record IsTextAt (note : Bytes) (entries : List Bytes) (path text : Bytes) : Type 0 where

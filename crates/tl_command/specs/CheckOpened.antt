@@ -8,11 +8,11 @@ use Rattle.tl_checkpoint.specs.OpenCheckpoint.{IsSignedCheckpoint}
 use Rattle.tl_device.specs.Device.{Passage, IsSteady, IsUnread, IsUnwritten}
 use Rattle.tl_key.specs.NoteKey.{verifier_key}
 use Rattle.tl_command.specs.ProofCommands.{Subject, CheckAboutComes}
-use Rattle.tl_command.specs.Run.{Runs}
-use Rattle.tl_command.specs.declared.fault.RunFault.{RunFault}
-use Rattle.tl_command.specs.declared.fault.RunFault.TheVariants.{BadKey, BadOrigin, BadCheckpoint, WrongSignature, Unverified, OutOfMemory}
-use Rattle.tl_command.specs.declared.place.Place.TheVariants.{File}
-use Rattle.tl_command.specs.Keys.{IsNoKey}
+use Rattle.tl_run.specs.Run.{Runs}
+use Rattle.tl_run.specs.declared.fault.RunFault.{RunFault}
+use Rattle.tl_run.specs.declared.fault.RunFault.TheVariants.{BadKey, BadOrigin, BadCheckpoint, WrongSignature, Unverified, OutOfMemory}
+use Rattle.tl_run.specs.declared.place.Place.TheVariants.{File}
+use Rattle.tl_run.specs.Keys.{IsNoKey}
 use Rattle.tl_command.specs.Open.{IsKeyWith, IsWrongNote, IsUnknownNote}
 
 -- the bytes are no note of a checkpoint

@@ -7,9 +7,10 @@ use Rattle.tl_checkpoint.specs.Checkpoint.{checkpoint_text}
 use Rattle.tl_text.specs.Text.{IsOneLine}
 use Rattle.tl_device.specs.Device.{Passage, IsUnread, IsUnwritten}
 use Rattle.tl_command.specs.Lines.{entries_of, first_too_long}
-use Rattle.tl_command.specs.Run.{Output, Prints, PrintsRefusal, Fails, Runs, IsEntryFault}
-use Rattle.tl_command.specs.declared.fault.RunFault.{RunFault}
-use Rattle.tl_command.specs.declared.fault.RunFault.TheVariants.{BadOrigin}
+use Rattle.tl_run.specs.Run.{Output, Prints, PrintsRefusal, Fails, Runs}
+use Rattle.tl_command.specs.Entries.{IsEntryFault}
+use Rattle.tl_run.specs.declared.fault.RunFault.{RunFault}
+use Rattle.tl_run.specs.declared.fault.RunFault.TheVariants.{BadOrigin}
 
 -- the text of the checkpoint of the log of these entries (C2SP tlog-checkpoint), without extensions
 abbrev pub head_text : Bytes → List Bytes → Bytes

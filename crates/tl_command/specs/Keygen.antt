@@ -6,8 +6,8 @@ use Rattle.tl_note.specs.Key.{IsKeyName}
 use Rattle.tl_key.specs.NoteKey.{SeedKey, public_of}
 use Rattle.tl_key.specs.KeyText.{Are32Bytes, private_text, verifier_text}
 use Rattle.tl_device.specs.Device.{Passage, IsUnwritten, WroteWhole, WrotePart}
-use Rattle.tl_command.specs.declared.fault.RunFault.{RunFault}
-use Rattle.tl_command.specs.declared.fault.RunFault.TheVariants.{Read, Write, BadName, OutOfMemory}
+use Rattle.tl_run.specs.declared.fault.RunFault.{RunFault}
+use Rattle.tl_run.specs.declared.fault.RunFault.TheVariants.{Read, Write, BadName, OutOfMemory}
 
 -- a key of this name and type
 pub record IsKeyOf (name : Bytes) (kind : ℕ) (k : SeedKey) : Type 0 where

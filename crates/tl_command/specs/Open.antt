@@ -10,10 +10,10 @@ use Rattle.tl_device.specs.Device.{Passage, IsSteady, IsUnread, IsUnwritten}
 use Rattle.tl_key.specs.NoteKey.{PublicKey, cosignature_kind, note_kind, verifier_key}
 use Rattle.tl_key.specs.KeyText.{IsVerifierText}
 use Rattle.tl_key.specs.Reading.{IsNoVerifierText}
-use Rattle.tl_command.specs.Run.{Output, Prints, PrintsRefusal, Fails, Runs}
-use Rattle.tl_command.specs.declared.fault.RunFault.{RunFault}
-use Rattle.tl_command.specs.declared.fault.RunFault.TheVariants.{Malformed, BadKey, WrongSignature, Unverified, OutOfMemory}
-use Rattle.tl_command.specs.Keys.{IsNoKey}
+use Rattle.tl_run.specs.Run.{Output, Prints, PrintsRefusal, Fails, Runs}
+use Rattle.tl_run.specs.declared.fault.RunFault.{RunFault}
+use Rattle.tl_run.specs.declared.fault.RunFault.TheVariants.{Malformed, BadKey, WrongSignature, Unverified, OutOfMemory}
+use Rattle.tl_run.specs.Keys.{IsNoKey}
 use Rattle.tl_command.specs.OpenCosigned.{CosignedComes}
 
 -- a fault of opening a note, as one of the command

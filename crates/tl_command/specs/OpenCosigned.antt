@@ -4,8 +4,8 @@ use Rattle.tl_hash.specs.Bytes.{Bytes}
 use Rattle.tl_note.specs.Key.{Key}
 use Rattle.tl_note.specs.Note.{Signature, Note, HasNoNote}
 use Rattle.tl_checkpoint.specs.Cosignature.{IsCosignature, IsOfKey, cosigned_message}
-use Rattle.tl_command.specs.Run.{Output, Prints, PrintsRefusal, Fails}
-use Rattle.tl_command.specs.declared.fault.RunFault.TheVariants.{Malformed, WrongSignature, Unverified}
+use Rattle.tl_run.specs.Run.{Output, Prints, PrintsRefusal, Fails}
+use Rattle.tl_run.specs.declared.fault.RunFault.TheVariants.{Malformed, WrongSignature, Unverified}
 
 -- none of these lines is of the key
 abbrev pub HasNoLine : Key → List Signature → Type 0

@@ -7,8 +7,9 @@ use Rattle.tl_text.specs.Text.{line}
 use Rattle.tl_proof.specs.Proofs.{inclusion_proof, consistency_proof}
 use Rattle.tl_command.specs.Lines.{entries_of, first_too_long}
 use Rattle.tl_command.specs.ProofText.{Inclusion, Consistency, Proof, IsProof, inclusion_text, consistency_text, proof_text, Accepts, proof_size, proof_root, proof_leaf}
-use Rattle.tl_command.specs.Run.{Output, Prints, PrintsRefusal, Fails, IsEntryFault}
-use Rattle.tl_command.specs.declared.fault.RunFault.TheVariants.{BadIndex, BadOld, Malformed}
+use Rattle.tl_run.specs.Run.{Output, Prints, PrintsRefusal, Fails}
+use Rattle.tl_command.specs.Entries.{IsEntryFault}
+use Rattle.tl_run.specs.declared.fault.RunFault.TheVariants.{BadIndex, BadOld, Malformed}
 
 -- the inclusion proof of the entry at this index (RFC 6962, section 2.1.1)
 abbrev pub inclusion_of : ℕ → List Bytes → Inclusion

@@ -3,10 +3,10 @@ use Rattle.std.specs.Prelude.{◌≡◌, ◌≢◌, Option, Result, Err}
 use Rattle.tl_hash.specs.Bytes.{Bytes}
 use Rattle.tl_key.specs.NoteKey.{SeedKey, note_kind}
 use Rattle.tl_device.specs.Device.{Passage, IsSteady, IsUnread, IsUnwritten}
-use Rattle.tl_command.specs.declared.fault.RunFault.{RunFault}
-use Rattle.tl_command.specs.declared.fault.RunFault.TheVariants.{BadKeyFile, BadOrigin, OutOfMemory}
-use Rattle.tl_command.specs.Keys.{IsPrivateFile, IsNoPrivateFile}
-use Rattle.tl_command.specs.Mirror.{seed_log_key}
+use Rattle.tl_run.specs.declared.fault.RunFault.{RunFault}
+use Rattle.tl_run.specs.declared.fault.RunFault.TheVariants.{BadKeyFile, BadOrigin, OutOfMemory}
+use Rattle.tl_run.specs.Keys.{IsPrivateFile, IsNoPrivateFile}
+use Rattle.tl_run.specs.Signing.{seed_log_key}
 use Rattle.tl_command.specs.Build.{RunsBuild}
 
 -- they are the text of a key of which this holds

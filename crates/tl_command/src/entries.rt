@@ -3,14 +3,13 @@
 ghost use Rattle.std.specs.Prelude.{◌≡◌, ◌+◌, ◌<◌, ◌≤◌, ◌∷◌, length, map, vec_items, vec_len, IfOk, OnErr, position, nat_lt};
 ghost use Rattle.tl_device.specs.Device.{passage};
 ghost use Rattle.tl_command.specs.Lines.{entries_of};
-ghost use Rattle.tl_command.specs.Run.{ReadsEntries};
+ghost use Rattle.tl_command.specs.Entries.{ReadsEntries};
 
-use crate::fault::RunFault;
-use crate::streams::read_input;
 use memchr::memchr;
 use std::alloc::{AllocError, Allocator};
 use std::io::Read;
 use tl_device::Counted;
+use tl_run::{RunFault, read_input};
 use tl_tile::LONGEST_ENTRY;
 
 /// The first entry of an input that isn't empty, and the rest of the input.

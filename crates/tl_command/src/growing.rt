@@ -5,11 +5,11 @@ ghost use Rattle.tl_hash.specs.Bytes.{Bytes};
 ghost use Rattle.tl_command.specs.Inner.Growing.{FillsTiles, IsGrowing, IsOutcome, IsTold};
 ghost use Rattle.tl_command.specs.Lines.{entries_of, HasNoNewline};
 
-use crate::fault::RunFault;
 use crate::whole_lines::{cut_four, cut_tile};
 use memchr::memchr;
 use std::alloc::{AllocError, Allocator};
 use tl_hash::Sha256Tree;
+use tl_run::RunFault;
 use tl_tile::Edge;
 
 mod cuts;

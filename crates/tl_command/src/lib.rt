@@ -18,36 +18,26 @@
 mod audit_text;
 mod commands;
 mod entries;
-mod fault;
 mod growing;
-mod keys;
 mod line_marks;
 mod lines;
 mod log_lines;
 mod marked_text;
-mod place;
 mod proof_text;
-mod streams;
 mod text;
 mod whole_lines;
 
 pub use commands::audit::run_audit;
-pub use commands::build::checkpoint_note::sign_checkpoint;
-pub use commands::build::log_signer::{HmacLogSigner, LogSigner};
 pub use commands::build::signed::{SignedOptions, run_build_signed};
 pub use commands::build::{BuildOptions, run_build};
 pub use commands::check::{run_check, run_check_about};
 pub use commands::checking::{CheckOptions, GivenEntry, run_check_opened};
-pub use commands::head::{HeadOptions, checkpoint_of, run_head};
+pub use commands::head::{HeadOptions, run_head};
 pub use commands::keygen::{KeygenOptions, run_keygen};
 pub use commands::opening::{note_refusal, run_open};
 pub use commands::proving::{run_consistency, run_inclusion};
 pub use entries::read_entries;
-pub use fault::{RunFault, exit_of, fault_line};
-pub use keys::{LogKey, read_file, read_log_key, read_private_key};
 pub use lines::lines_of;
-pub use place::Place;
 pub use proof_text::{
     ConsistencyProof, InclusionProof, consistency_bytes, inclusion_bytes, read_consistency,
 };
-pub use streams::{MOST_INPUT, print_text, read_input};

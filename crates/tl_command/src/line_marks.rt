@@ -6,13 +6,13 @@ ghost use Rattle.tl_command.specs.Inner.Cuts.{AreMarks, BeginsWithLines, IsMarkF
 ghost use Rattle.tl_command.specs.Inner.Growing.{BeginsWith};
 ghost use Rattle.tl_command.specs.Lines.{entries_of, first_too_long};
 
-use crate::fault::RunFault;
 use crate::log_lines::LogLines;
 use crate::marked_text::MarkedText;
 use crate::text::{TILE, count_lines};
 use crate::whole_lines::cut_tile;
 use std::alloc::{AllocError, Allocator};
 use std::marker::Model;
+use tl_run::RunFault;
 
 /// The lines of a text, none of which is too long, and where each 256th of them ends, as far as each has its newline.
 /// Contracts see the list of them.

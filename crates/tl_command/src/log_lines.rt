@@ -6,13 +6,13 @@ ghost use Rattle.tl_hash.specs.Tree.{tree_hash};
 ghost use Rattle.tl_tile.specs.Bundle.{AreShortEntries};
 
 use crate::entries::split_entries;
-use crate::fault::RunFault;
 use crate::growing::reading::edge_of;
 use crate::marked_text::MarkedText;
 use std::alloc::{AllocError, Allocator};
 use std::marker::Model;
 use std::thread::Threads;
 use tl_hash::Hash;
+use tl_run::RunFault;
 
 /// The lines of a text, none of which is too long: the entries of a log. They stay where they are. Contracts see the
 /// list of them. `LineMarks` gives them.

@@ -1,7 +1,8 @@
 //! What `audit` prints of two lists that only a weak digest lets pass.
 
 use std::alloc::Global;
-use tl_command::{RunFault, run_audit};
+use tl_command::run_audit;
+use tl_run::RunFault;
 use tl_device::Counted;
 use tl_testing::SumDigest;
 

@@ -3,7 +3,8 @@
 use std::alloc::Global;
 use std::io::{self, Error, ErrorKind};
 use std::random::RandomSource;
-use tl_command::{RunFault, run_keygen};
+use tl_command::run_keygen;
+use tl_run::RunFault;
 use tl_device::Counted;
 use tl_key::Note;
 

@@ -6,10 +6,10 @@ use Rattle.tl_note.specs.Key.{Key}
 use Rattle.tl_key.specs.KeyText.{IsVerifierText}
 use Rattle.tl_key.specs.NoteKey.{PublicKey, note_kind, verifier_key}
 use Rattle.tl_device.specs.Device.{Passage, IsUnread, IsUnwritten, ReadWhole, WrotePart, WroteWhole}
-use Rattle.tl_command.specs.Keys.{ReadsKey}
-use Rattle.tl_command.specs.Run.{Prints, PrintsRefusal, Runs, Wrote, WroteSome, most_input}
-use Rattle.tl_command.specs.declared.fault.RunFault.{RunFault}
-use Rattle.tl_command.specs.declared.fault.RunFault.TheVariants.{Refused, Read, Write, TooLarge, EntryTooLong, BadOrigin, BadIndex, BadOld, BadPath, NotThere, Malformed, Chain, Sign, Operator, Listen, Accept, OutOfMemory, BadName, BadKey, BadCheckpoint, WrongSignature, Unverified, Device, BadKeyFile, NothingThere}
+use Rattle.tl_run.specs.Keys.{ReadsKey}
+use Rattle.tl_run.specs.Run.{Prints, PrintsRefusal, Runs, Wrote, WroteSome, most_input}
+use Rattle.tl_run.specs.declared.fault.RunFault.{RunFault}
+use Rattle.tl_run.specs.declared.fault.RunFault.TheVariants.{Refused, Read, Write, TooLarge, EntryTooLong, BadOrigin, BadIndex, BadOld, BadPath, NotThere, Malformed, Chain, Sign, Operator, Listen, Accept, OutOfMemory, BadName, BadKey, BadCheckpoint, WrongSignature, Unverified, Device, BadKeyFile, NothingThere}
 use Rattle.tl_fork.specs.Evidence.{IsEvidence}
 use Rattle.tl_evidence.specs.ForkCommand.{ForkComes, RunsFork}
 

@@ -5,11 +5,11 @@ use Rattle.tl_text.specs.Text.{line}
 use Rattle.tl_note.specs.Key.{Key}
 use Rattle.tl_device.specs.Device.{Passage, IsSteady, IsUnread, IsUnwritten}
 use Rattle.tl_key.specs.NoteKey.{verifier_key}
-use Rattle.tl_command.specs.Keys.{IsNoKey}
+use Rattle.tl_run.specs.Keys.{IsNoKey}
 use Rattle.tl_command.specs.Open.{IsKeyWith}
-use Rattle.tl_command.specs.Run.{Output, Prints, PrintsRefusal, Fails, Runs}
-use Rattle.tl_command.specs.declared.fault.RunFault.{RunFault}
-use Rattle.tl_command.specs.declared.fault.RunFault.TheVariants.{BadKey, OutOfMemory}
+use Rattle.tl_run.specs.Run.{Output, Prints, PrintsRefusal, Fails, Runs}
+use Rattle.tl_run.specs.declared.fault.RunFault.{RunFault}
+use Rattle.tl_run.specs.declared.fault.RunFault.TheVariants.{BadKey, OutOfMemory}
 use Rattle.tl_fork.specs.Evidence.{IsEvidence}
 
 -- what comes of an input: it is evidence against the log, or it is refused

@@ -6,14 +6,15 @@ ghost use Rattle.tl_key.specs.KeyText.{IsVerifierText};
 ghost use Rattle.tl_key.specs.NoteKey.{PublicKey, note_kind, verifier_key};
 ghost use Rattle.tl_note.specs.Key.{IsKeyName};
 ghost use Rattle.tl_text.specs.Text.{line};
-ghost use Rattle.tl_command.specs.Run.{Runs};
+ghost use Rattle.tl_run.specs.Run.{Runs};
 ghost use Rattle.tl_fork.specs.Evidence.{IsEvidence};
 ghost use Rattle.tl_evidence.specs.ForkCommand.{ForkComes, RunsFork};
 
 use crate::evidence::is_evidence;
 use std::alloc::{AllocError, Global};
 use std::io::{Read, Write};
-use tl_command::{MOST_INPUT, RunFault, lines_of, print_text, read_input, read_log_key};
+use tl_command::lines_of;
+use tl_run::{MOST_INPUT, RunFault, print_text, read_input, read_log_key};
 use tl_device::Counted;
 use tl_note::Verifier;
 

@@ -6,7 +6,7 @@ use Rattle.tl_device.specs.Device.{Passage, IsUnwritten}
 use Rattle.tl_fetch.specs.declared.fault.Address.TheVariants as address
 use Rattle.tl_fetch.specs.declared.fault.FetchFault.{FetchFault}
 use Rattle.tl_fetch.specs.declared.fault.FetchFault.TheVariants as fetch
-use Rattle.tl_command.specs.declared.fault.RunFault.TheVariants as run
+use Rattle.tl_run.specs.declared.fault.RunFault.TheVariants as run
 use Rattle.tl_tile.specs.declared.resource.Resource.{Resource}
 use Rattle.tl_source.specs.Fulls.{may_answer_front}
 use Rattle.tl_source.specs.Sources.{Origin, any_answers}

@@ -13,10 +13,10 @@ use Rattle.tl_source.specs.Fulls.{may_answer_front}
 use Rattle.tl_folder.specs.Limits.{most_bytes}
 use Rattle.tl_source.specs.Sources.{Origin, Folder, Host, any_answers}
 use Rattle.tl_source.specs.Url.{IsNoUrl, IsUrl}
-use Rattle.tl_command.specs.Faults.{after_device}
-use Rattle.tl_command.specs.declared.place.Place.TheVariants.{State, Source}
-use Rattle.tl_command.specs.declared.fault.RunFault.{RunFault}
-use Rattle.tl_command.specs.declared.fault.RunFault.TheVariants.{BadCheckpoint, BadKey, Device, OutOfMemory}
+use Rattle.tl_run.specs.Faults.{after_device}
+use Rattle.tl_run.specs.declared.place.Place.TheVariants.{State, Source}
+use Rattle.tl_run.specs.declared.fault.RunFault.{RunFault}
+use Rattle.tl_run.specs.declared.fault.RunFault.TheVariants.{BadCheckpoint, BadKey, Device, OutOfMemory}
 use Rattle.tl_fetch.specs.declared.fault.Address.TheVariants.{From}
 use Rattle.tl_fetch.specs.declared.fault.FetchFault.{FetchFault}
 use Rattle.tl_fetch.specs.declared.fault.FetchFault.TheVariants.{Run, BadAddress, OtherKey, BadWitness, SharedKey, Unavailable}

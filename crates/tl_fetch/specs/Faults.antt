@@ -7,9 +7,9 @@ use Rattle.tl_client.specs.declared.head.HeadFault.{HeadFault}
 use Rattle.tl_client.specs.declared.head.HeadFault.TheVariants as head
 use Rattle.tl_tile.specs.declared.resource.Resource.TheVariants as resource
 use Rattle.tl_command.specs.Open.{after_note}
-use Rattle.tl_command.specs.declared.place.Place.TheVariants as place
-use Rattle.tl_command.specs.declared.fault.RunFault.{RunFault}
-use Rattle.tl_command.specs.declared.fault.RunFault.TheVariants as run
+use Rattle.tl_run.specs.declared.place.Place.TheVariants as place
+use Rattle.tl_run.specs.declared.fault.RunFault.{RunFault}
+use Rattle.tl_run.specs.declared.fault.RunFault.TheVariants as run
 use Rattle.tl_fetch.specs.declared.fault.FetchFault.{FetchFault}
 use Rattle.tl_fetch.specs.declared.fault.FetchFault.TheVariants as fetch
 

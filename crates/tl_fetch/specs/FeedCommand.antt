@@ -5,7 +5,7 @@ use Rattle.tl_device.specs.Device.{Passage, IsUnwritten}
 use Rattle.tl_source.specs.Fulls.{may_answer_front}
 use Rattle.tl_source.specs.Sources.{Origin, any_answers}
 use Rattle.tl_source.specs.Url.{IsNoUrl}
-use Rattle.tl_command.specs.declared.fault.RunFault.TheVariants.{OutOfMemory}
+use Rattle.tl_run.specs.declared.fault.RunFault.TheVariants.{OutOfMemory}
 use Rattle.tl_fetch.specs.declared.fault.Address.TheVariants.{From, To}
 use Rattle.tl_fetch.specs.declared.fault.FetchFault.{FetchFault}
 use Rattle.tl_fetch.specs.declared.fault.FetchFault.TheVariants.{BadAddress, Run}

@@ -3,7 +3,7 @@ use Rattle.std.specs.Prelude.{◌≡◌, ◌⊎◌, ◌++◌}
 use Rattle.tl_hash.specs.Bytes.{Bytes}
 use Rattle.tl_hash.specs.declared.head.Head.{Head}
 use Rattle.tl_device.specs.Device.{Passage, IsUnwritten}
-use Rattle.tl_command.specs.declared.fault.RunFault.TheVariants.{OutOfMemory, Write}
+use Rattle.tl_run.specs.declared.fault.RunFault.TheVariants.{OutOfMemory, Write}
 use Rattle.tl_fetch.specs.declared.fault.FetchFault.{FetchFault}
 use Rattle.tl_fetch.specs.declared.fault.FetchFault.TheVariants.{Run}
 use Rattle.tl_fetch.specs.Faults.{IsNoAccusation, bad_checkpoint}

@@ -3,7 +3,7 @@ use Rattle.std.specs.Prelude.{◌≡◌, ◌⊎◌, ◌<◌, ◌≤◌, ℕ, tru
 use Rattle.tl_hash.specs.Bytes.{Bytes}
 use Rattle.tl_device.specs.Device.{Passage, IsUnwritten}
 use Rattle.tl_tile.specs.declared.resource.Resource.{Resource}
-use Rattle.tl_command.specs.declared.fault.RunFault.TheVariants.{Write}
+use Rattle.tl_run.specs.declared.fault.RunFault.TheVariants.{Write}
 use Rattle.tl_fetch.specs.declared.fault.FetchFault.{FetchFault}
 use Rattle.tl_fetch.specs.declared.fault.FetchFault.TheVariants.{Run, Older, Forked}
 use Rattle.tl_fetch.specs.declared.options.FetchRequest.{FetchRequest}

@@ -10,8 +10,8 @@ use Rattle.tl_checkpoint.specs.Checkpoint as checkpoint
 use Rattle.tl_checkpoint.specs.Cosignature.{IsCosignature}
 use Rattle.tl_client.specs.Trusted.{IsTrusted, OpensHead}
 use Rattle.tl_client.specs.declared.head.HeadFault.{HeadFault}
-use Rattle.tl_command.specs.declared.place.Place.TheVariants.{State}
-use Rattle.tl_command.specs.declared.fault.RunFault.TheVariants.{BadCheckpoint, OutOfMemory}
+use Rattle.tl_run.specs.declared.place.Place.TheVariants.{State}
+use Rattle.tl_run.specs.declared.fault.RunFault.TheVariants.{BadCheckpoint, OutOfMemory}
 use Rattle.tl_fetch.specs.declared.fault.FetchFault.{FetchFault}
 use Rattle.tl_fetch.specs.declared.fault.FetchFault.TheVariants.{Run, OtherLog, Stale, Unavailable}
 use Rattle.tl_fetch.specs.Faults.{after_head, bad_checkpoint}

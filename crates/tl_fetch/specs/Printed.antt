@@ -10,7 +10,7 @@ use Rattle.tl_proof.specs.Acceptance.{AcceptsInclusion}
 use Rattle.tl_command.specs.ProofText.{Inclusion, inclusion_text}
 use Rattle.tl_fetch.specs.declared.fault.FetchFault.{FetchFault}
 use Rattle.tl_fetch.specs.declared.fault.FetchFault.TheVariants.{Run}
-use Rattle.tl_command.specs.declared.fault.RunFault.TheVariants.{Write, BadIndex, OutOfMemory}
+use Rattle.tl_run.specs.declared.fault.RunFault.TheVariants.{Write, BadIndex, OutOfMemory}
 use Rattle.tl_fetch.specs.declared.options.FetchRequest.{FetchRequest}
 use Rattle.tl_fetch.specs.declared.options.FetchRequest.TheVariants as wanted
 use Rattle.tl_tile.specs.declared.resource.Resource.{Resource}

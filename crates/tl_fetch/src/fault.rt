@@ -6,7 +6,7 @@ ghost use Rattle.tl_fetch.specs.FaultWords.{fetch_status, fetch_text, uncompared
 use std::alloc::{AllocError, AllocFailed, Allocator};
 use std::error::Error;
 use std::fmt::{self, Display, Formatter};
-use tl_command::{RunFault, exit_of, fault_line};
+use tl_run::{RunFault, exit_of, fault_line};
 
 /// An address that the options name.
 #[derive(Clone, Copy, Debug, PartialEq, Eq)]
@@ -117,7 +117,7 @@ impl From<RunFault> for FetchFault {
 }
 
 impl From<AllocError> for FetchFault {
-    ghost use Rattle.tl_command.specs.declared.fault.RunFault.TheVariants.{OutOfMemory};
+    ghost use Rattle.tl_run.specs.declared.fault.RunFault.TheVariants.{OutOfMemory};
     ghost use Rattle.tl_fetch.specs.declared.fault.FetchFault.TheVariants.{Run};
 
     ghost from_gives = { λ _ fault. fault ≡ Run OutOfMemory };
@@ -128,7 +128,7 @@ impl From<AllocError> for FetchFault {
 }
 
 impl<X: Drop> From<AllocFailed<X>> for FetchFault {
-    ghost use Rattle.tl_command.specs.declared.fault.RunFault.TheVariants.{OutOfMemory};
+    ghost use Rattle.tl_run.specs.declared.fault.RunFault.TheVariants.{OutOfMemory};
     ghost use Rattle.tl_fetch.specs.declared.fault.FetchFault.TheVariants.{Run};
 
     ghost from_gives = { λ _ fault. fault ≡ Run OutOfMemory };

@@ -13,7 +13,7 @@ use crate::policy::Policy;
 use std::alloc::{AllocError, Global};
 use std::time::{Clock, SystemTime, UNIX_EPOCH};
 use tl_checkpoint::check_cosignature;
-use tl_command::RunFault;
+use tl_run::RunFault;
 use tl_note::{NoteFault, SigView, Verifier, parse_note};
 
 // The seconds since 1970 that the clock reads. If it can't be read, they are the most there are: nothing is fresh then.

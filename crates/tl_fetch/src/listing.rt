@@ -17,7 +17,7 @@ use itoa::Buffer;
 use std::alloc::{AllocError, Allocator};
 use std::io::Write;
 use tl_client::{Head, ResourceSource};
-use tl_command::{RunFault, print_text};
+use tl_run::{RunFault, print_text};
 use tl_device::Counted;
 use tl_source::{AsksHost, HostClient, Requests};
 use tl_tile::FetchedTiles;

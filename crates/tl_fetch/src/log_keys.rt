@@ -10,7 +10,7 @@ use crate::fault::FetchFault;
 use crate::options::FetchOptions;
 use crate::witnesses::{check_keys, is_same, read_text};
 use std::alloc::Global;
-use tl_command::RunFault;
+use tl_run::RunFault;
 use tl_key::{Note, NoteVerifier};
 use tl_note::Verifier;
 

@@ -15,7 +15,7 @@ use crate::policy::Policy;
 use crate::state::TrustStore;
 use std::alloc::Global;
 use tl_client::{Head, ResourceSource, open_cosigned};
-use tl_command::{Place, RunFault};
+use tl_run::{Place, RunFault};
 use tl_hash::{Sha256Tree, empty_hash};
 use tl_tile::{Resource, SourceFault};
 

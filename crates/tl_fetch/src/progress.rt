@@ -4,7 +4,7 @@ use crate::observer::Observer;
 use std::alloc::{Allocator, Global};
 use std::io::Write;
 use tl_client::Head;
-use tl_command::{RunFault, print_text};
+use tl_run::{RunFault, print_text};
 use tl_device::Counted;
 use tl_tile::FetchedTiles;
 

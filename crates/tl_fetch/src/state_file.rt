@@ -8,7 +8,7 @@ use crate::policy::Policy;
 use crate::state::TrustStore;
 use std::alloc::Global;
 use std::fs::{File, Files};
-use tl_command::{Place, RunFault};
+use tl_run::{Place, RunFault};
 use tl_device::DeviceFault;
 use tl_folder::AtomicFile;
 

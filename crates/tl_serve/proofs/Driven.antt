@@ -8,7 +8,7 @@ use Rattle.tl_loop.specs.declared.publish_loop.PublishLoop.{PublishLoop}
 use Rattle.tl_loop.specs.PublishLoop.{after, step_of}
 use Rattle.tl_loop.specs.Order.{after_all}
 use Rattle.tl_sequencer.specs.Log.{Log}
-use Rattle.tl_command.specs.declared.fault.RunFault.{RunFault}
+use Rattle.tl_run.specs.declared.fault.RunFault.{RunFault}
 use Rattle.tl_serve.specs.Inner.Carrying.{Does, DoesAll, Drives, Moment, is_own}
 use Rattle.tl_serve.specs.Inner.Telling.{Tells, TellsRest, told_not_published}
 

@@ -2,7 +2,7 @@
 use Rattle.std.proofs.Common.{◌≡◌, ℕ, suc, ◌+◌, ◌-◌, ◌^◌, ◌<◌, ◌≤◌, inl, inr, List, [], ◌∷◌, length, ap, arith, refl, subst, sym}
 use Rattle.std.specs.Prelude.{Err, Ok, Result, min}
 use Rattle.std.specs.List.{range_with_len}
-use Rattle.tl_command.specs.declared.fault.RunFault.{RunFault}
+use Rattle.tl_run.specs.declared.fault.RunFault.{RunFault}
 use Rattle.tl_sequencer.specs.Log.{Log}
 use Rattle.tl_serve.specs.Inner.Rounds.{AllInTurn, InTurn}
 

@@ -11,9 +11,9 @@ use Rattle.tl_sequencer.specs.Intake.{Intake}
 use Rattle.tl_archive.specs.Shelves.{Kept}
 use Rattle.tl_ledger.specs.Standing.{Ledger}
 use Rattle.tl_ledger.specs.Opening.{Found, Opens}
-use Rattle.tl_command.specs.Mirror.{LogKey}
-use Rattle.tl_command.specs.declared.keys.LogKey.{LogKey as GivenKey}
-use Rattle.tl_command.specs.declared.fault.RunFault.{RunFault}
+use Rattle.tl_run.specs.Signing.{LogKey}
+use Rattle.tl_run.specs.declared.keys.LogKey.{LogKey as GivenKey}
+use Rattle.tl_run.specs.declared.fault.RunFault.{RunFault}
 use Rattle.tl_append.specs.Appending.{Course, IsPutOrNot, course}
 use Rattle.tl_append.specs.Cosigning.{Quorum, Shows, ShowsAtMost, ShowsBatch, ShowsThen, Turn, entries_of}
 use Rattle.tl_append.specs.Running.{IsLogKey, OfFound, Visit}

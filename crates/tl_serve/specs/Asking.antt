@@ -4,7 +4,7 @@ use Rattle.tl_hash.specs.Bytes.{Bytes}
 use Rattle.tl_key.specs.KeyText.{IsVerifierText}
 use Rattle.tl_key.specs.NoteKey.{PublicKey, cosignature_kind}
 use Rattle.tl_ledger.specs.Opening.{Found}
-use Rattle.tl_command.specs.declared.fault.RunFault.{RunFault}
+use Rattle.tl_run.specs.declared.fault.RunFault.{RunFault}
 use Rattle.tl_append.specs.Cosigning.{Quorum}
 use Rattle.tl_append.specs.Running.{Visit}
 use Rattle.tl_serve.specs.declared.options.ServeOptions.{ServeOptions}

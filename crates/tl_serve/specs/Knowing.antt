@@ -3,8 +3,8 @@
 use Rattle.std.specs.Prelude.{◌≡◌, ⊤, Result, Ok, Err, string_bytes}
 use Rattle.tl_note.specs.Key.{IsKeyName}
 use Rattle.tl_device.specs.Device.{Passage, IsUnread}
-use Rattle.tl_command.specs.declared.fault.RunFault.{RunFault}
-use Rattle.tl_command.specs.declared.fault.RunFault.TheVariants.{BadOrigin, Chain, OutOfMemory, Read, TooLarge}
+use Rattle.tl_run.specs.declared.fault.RunFault.{RunFault}
+use Rattle.tl_run.specs.declared.fault.RunFault.TheVariants.{BadOrigin, Chain, OutOfMemory, Read, TooLarge}
 use Rattle.tl_logs.specs.declared.state_fault.StateFault.{StateFault}
 use Rattle.tl_logs.specs.declared.state_fault.StateFault.TheVariants as state
 use Rattle.tl_serve.specs.declared.options.KnownLogs.{KnownLogs}

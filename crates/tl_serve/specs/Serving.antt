@@ -2,9 +2,9 @@
 use Rattle.std.specs.Prelude.{◌≡◌, ◌⊎◌, List, [], Result, Ok, Err}
 use Rattle.tl_hash.specs.Bytes.{Bytes}
 use Rattle.tl_ledger.specs.Opening.{Found}
-use Rattle.tl_command.specs.Mirror.{LogKey}
-use Rattle.tl_command.specs.declared.keys.LogKey.{LogKey as GivenKey}
-use Rattle.tl_command.specs.declared.fault.RunFault.{RunFault}
+use Rattle.tl_run.specs.Signing.{LogKey}
+use Rattle.tl_run.specs.declared.keys.LogKey.{LogKey as GivenKey}
+use Rattle.tl_run.specs.declared.fault.RunFault.{RunFault}
 use Rattle.tl_append.specs.Cosigning.{Quorum, Shows, Turn}
 use Rattle.tl_append.specs.Running.{IsLogKey, OfFound, Visit}
 

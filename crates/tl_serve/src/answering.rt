@@ -12,7 +12,7 @@ use std::net::{Net, TcpListener, TcpStream};
 use std::sync::Wait;
 use std::thread::{JoinHandle, Scope, Threads};
 use std::time::Clock;
-use tl_command::RunFault;
+use tl_run::RunFault;
 
 /// A thread that answers.
 pub(crate) type AnsweringThread = JoinHandle<()>;

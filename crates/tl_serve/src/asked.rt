@@ -7,7 +7,7 @@ ghost use Rattle.tl_serve.specs.Asking.{AreKeysOf};
 
 use crate::options::AskedWitness;
 use std::alloc::{AllocError, Global};
-use tl_command::RunFault;
+use tl_run::RunFault;
 use tl_key::{CosignerVerifier, KeyFault, read_verifier_key};
 use tl_source::Url;
 

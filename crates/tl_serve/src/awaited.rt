@@ -5,7 +5,7 @@ use mio::{Events, Interest, Poll, Token, Waker};
 use std::alloc::Global;
 use std::net::Net;
 use std::os::fd::RawFd;
-use tl_command::RunFault;
+use tl_run::RunFault;
 
 // The tokens under which the input and the waker are watched.
 const INPUT: Token = Token(0);

@@ -8,7 +8,7 @@ use std::io::Write;
 use std::net::{Net, SocketAddr, TcpListener, TcpStream};
 use std::os::fd::RawFd;
 use std::sync::Arc;
-use tl_command::RunFault;
+use tl_run::RunFault;
 use tl_cosign::Ballot;
 use tl_device::Counted;
 

@@ -11,7 +11,7 @@ use std::net;
 use std::net::Net;
 use std::sync::Wait;
 use std::time::{Clock, Duration, Instant};
-use tl_command::RunFault;
+use tl_run::RunFault;
 
 // The most events that one poll returns.
 const MOST_EVENTS: usize = 1024;

@@ -11,7 +11,7 @@ use std::thread::{JoinHandle, Scope};
 use std::time::{Clock, Duration};
 use tl_append::{AsksCosigners, ProposalStore};
 use tl_archive::Shelf;
-use tl_command::{RunFault, print_text};
+use tl_run::{RunFault, print_text};
 use tl_cosign::{Ballot, BallotEvent, HttpWitness, LogKeys, ShelfReader, Unasked, ask_in_rounds};
 use tl_device::Counted;
 use tl_note::Verifier;

@@ -10,7 +10,7 @@ use std::alloc::Global;
 use std::snapshot::Snapshot;
 use std::thread;
 use std::thread::{Promise, PromisedHandle, Scope, Threads};
-use tl_command::RunFault;
+use tl_run::RunFault;
 use tl_sequencer::{Ended, Submitter, Why};
 
 /// A submitter, and the entries that it is to send.

@@ -11,7 +11,7 @@ use std::fs::{Files, metadata};
 use std::io::{Read, Write};
 use std::net::{Net, TcpListener, TcpStream};
 use std::sync::Arc;
-use tl_command::{MOST_INPUT, RunFault};
+use tl_run::{MOST_INPUT, RunFault};
 use tl_device::{Counted, DeviceFault, read_plain};
 use tl_logs::{KnownLog, LogsFault, read_logs};
 use tl_note::{Signer, Verifier};

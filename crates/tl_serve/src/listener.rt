@@ -11,7 +11,7 @@ use std::net::{Net, TcpListener, TcpStream};
 use std::os::fd::AsRawFd;
 use std::sync::atomic::{AtomicBool, AtomicU64, Ordering};
 use std::sync::{Mutex, Wait};
-use tl_command::{RunFault, print_text};
+use tl_run::{RunFault, print_text};
 use tl_device::Counted;
 
 /// The token under which a thread watches the listener. Those of connections are smaller.

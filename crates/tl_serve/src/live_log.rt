@@ -6,7 +6,7 @@ ghost use Rattle.tl_serve.specs.Inner.Live.{TakesIn, TakesRest, after_take};
 ghost use Rattle.tl_serve.specs.Inner.Running.{StaysRunning};
 
 use std::alloc::Global;
-use tl_command::RunFault;
+use tl_run::RunFault;
 use tl_hash::Head;
 use tl_sequencer::{Ended, TakeFault};
 
@@ -18,7 +18,7 @@ pub(crate) trait LiveLog: Drop {
     ghost use Rattle.std.specs.Global.{Global as GlobalValue};
     ghost use Rattle.std.specs.Prelude.{Bool, Option, Result};
     ghost use Rattle.tl_sequencer.specs.Log.{Log};
-    ghost use Rattle.tl_command.specs.declared.fault.RunFault.{RunFault};
+    ghost use Rattle.tl_run.specs.declared.fault.RunFault.{RunFault};
     ghost use Rattle.tl_hash.specs.declared.head.Head.{Head};
     ghost use Rattle.tl_serve.specs.Inner.Running.{Begun};
 

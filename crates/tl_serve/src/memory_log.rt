@@ -8,7 +8,7 @@ ghost use Rattle.tl_serve.specs.Inner.Live.{Finishes, Shows, TakesIn, TakesRest}
 use crate::host::Host;
 use crate::live_log::{LiveLog, refusal};
 use std::alloc::Global;
-use tl_command::RunFault;
+use tl_run::RunFault;
 use tl_hash::Head;
 use tl_publisher::{BoardReader, Operator, PublishFault, Published, RunningLog};
 use tl_sequencer::Ended;

@@ -1,6 +1,6 @@
 //! Options of the commands `serve` and `witness`.
 
-use tl_command::LogKey;
+use tl_run::LogKey;
 
 /// The key by which a witness knows a log.
 #[derive(Drop)]

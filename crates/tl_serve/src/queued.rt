@@ -5,7 +5,7 @@ use crate::submit_queue::SubmitQueue;
 use std::alloc::Global;
 use std::sync::Wait;
 use std::vec::IntoIter;
-use tl_command::RunFault;
+use tl_run::RunFault;
 use tl_lines::NextLine;
 
 /// The entries of a queue, as they are submitted.

@@ -13,14 +13,14 @@ use crate::live_log::LiveLog;
 use crate::telling::{tell_head, tell_input_ended, tell_not_published, tell_too_long};
 use std::alloc::Global;
 use std::io::Write;
-use tl_command::RunFault;
+use tl_run::RunFault;
 use tl_device::Counted;
 use tl_loop::{Event, PublishLoop, Step};
 use tl_sequencer::Ended;
 
 /// What informs the thread that carries out the steps of what happens beside it.
 pub(crate) trait Feed {
-    ghost use Rattle.tl_command.specs.declared.fault.RunFault.{RunFault};
+    ghost use Rattle.tl_run.specs.declared.fault.RunFault.{RunFault};
     ghost use Rattle.tl_loop.specs.declared.publish_loop.Event.{Event};
 
     /// What waiting makes of it, by what happened.

@@ -4,7 +4,7 @@ ghost use Rattle.std.specs.Prelude.{◌≡◌, ◌≤◌, All, string_bytes};
 ghost use Rattle.tl_device.specs.Device.{passage};
 ghost use Rattle.tl_publisher.specs.Operating.{IsOperating};
 ghost use Rattle.tl_sequencer.specs.Log.{IsSenderOf, rings_of};
-ghost use Rattle.tl_command.specs.Origins.{RefusesOrigin};
+ghost use Rattle.tl_run.specs.Origins.{RefusesOrigin};
 
 use crate::bound_listener::{BoundListener, Site};
 use crate::gate::{Gate, OpenGate};
@@ -24,7 +24,7 @@ use std::os::fd::RawFd;
 use std::sync::Arc;
 use std::thread::{Threads, available_parallelism};
 use tl_append::{LogKeys, keys_of};
-use tl_command::RunFault;
+use tl_run::RunFault;
 use tl_device::Counted;
 use tl_lines::Lines;
 use tl_note::{Signer, Verifier, is_key_name};

@@ -2,7 +2,7 @@
 
 ghost use Rattle.std.specs.Prelude.{◌≡◌, ◌⊎◌, Err, IfOk, map, string_bytes, vec_items};
 ghost use Rattle.tl_device.specs.Device.{passage};
-ghost use Rattle.tl_command.specs.Origins.{RefusesOrigin};
+ghost use Rattle.tl_run.specs.Origins.{RefusesOrigin};
 ghost use Rattle.tl_append.specs.Running.{BeginsAsAsked, visit};
 ghost use Rattle.tl_serve.specs.Asking.{AreKeysOf, ServesCosigned};
 ghost use Rattle.tl_serve.specs.Serving.{IsLeft, Serves};
@@ -27,7 +27,7 @@ use tl_append::{
 };
 use tl_archive::Shelf;
 use tl_checkpoint::have_distinct_names;
-use tl_command::RunFault;
+use tl_run::RunFault;
 use tl_cosign::Ballot;
 use tl_device::Counted;
 use tl_key::CosignerVerifier;

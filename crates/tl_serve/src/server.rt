@@ -27,7 +27,7 @@ use std::io::{Read, Write};
 use std::net::{Net, TcpListener, TcpStream};
 use std::os::fd::RawFd;
 use std::sync::Arc;
-use tl_command::RunFault;
+use tl_run::RunFault;
 use tl_device::Counted;
 use tl_lines::Lines;
 

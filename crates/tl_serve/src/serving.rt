@@ -23,7 +23,7 @@ use std::io::Write;
 use std::net::{Net, TcpListener, TcpStream};
 use std::thread;
 use std::thread::Scope;
-use tl_command::RunFault;
+use tl_run::RunFault;
 use tl_device::Counted;
 use tl_loop::{Event, PublishLoop, Step};
 

@@ -10,7 +10,7 @@ use crate::live_log::{LiveLog, refusal};
 use std::alloc::Global;
 use std::snapshot::Snapshot;
 use tl_append::{LogShelf, LogSigningKey};
-use tl_command::RunFault;
+use tl_run::RunFault;
 use tl_hash::Head;
 use tl_ledger::Ledger;
 use tl_sequencer::{Ended, Intake};

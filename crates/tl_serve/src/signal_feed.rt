@@ -7,7 +7,7 @@ use crate::running::Feed;
 use crate::signals::Signals;
 use std::sync::Wait;
 use std::time::{Clock, Duration, Instant};
-use tl_command::RunFault;
+use tl_run::RunFault;
 use tl_loop::Event;
 
 /// What happens beside the thread that carries out steps, as the other threads signal it, and when

@@ -8,7 +8,7 @@ use std::net::Net;
 use std::sync::atomic::{AtomicBool, AtomicU64, Ordering};
 use std::sync::{Arc, Mutex, Wait};
 use std::time::Duration;
-use tl_command::RunFault;
+use tl_run::RunFault;
 use tl_cosign::Ballot;
 use tl_loop::Event;
 

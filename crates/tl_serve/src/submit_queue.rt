@@ -9,7 +9,7 @@ use std::collections::VecDeque;
 use std::net::Net;
 use std::sync::atomic::{AtomicU64, Ordering};
 use std::sync::{Arc, Mutex, Wait};
-use tl_command::{Place, RunFault};
+use tl_run::{Place, RunFault};
 use tl_device::DeviceFault;
 use tl_hash::{Hash, Sha256Tree, leaf_hash};
 use tl_tile::{Resource, bundle_width};

@@ -7,7 +7,7 @@ ghost use Rattle.tl_serve.specs.Inner.Telling.{Tells, told_closed, told_head, to
 use base64::engine::general_purpose::STANDARD;
 use std::alloc::Global;
 use std::io::{ErrorKind, Write};
-use tl_command::{RunFault, print_text};
+use tl_run::{RunFault, print_text};
 use tl_device::Counted;
 use tl_hash::Head;
 

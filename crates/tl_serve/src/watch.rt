@@ -4,7 +4,7 @@ use mio::{Events, Poll, Token, Waker};
 use std::alloc::Global;
 use std::net::Net;
 use std::time::Duration;
-use tl_command::RunFault;
+use tl_run::RunFault;
 
 // The most events that one poll returns.
 const MOST_EVENTS: usize = 4;

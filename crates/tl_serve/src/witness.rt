@@ -5,7 +5,7 @@ ghost use Rattle.sha2.specs.Sha256.{sha256};
 ghost use Rattle.tl_device.specs.Device.{passage};
 ghost use Rattle.tl_witness.specs.ReadChain.{chains_shown};
 ghost use Rattle.tl_logs.specs.ReadLogs.{logs_shown};
-ghost use Rattle.tl_command.specs.Origins.{RefusesOrigin};
+ghost use Rattle.tl_run.specs.Origins.{RefusesOrigin};
 ghost use Rattle.tl_serve.specs.Inner.Stating.{HaveState, LackState, ReadsLines};
 ghost use Rattle.tl_serve.specs.Knowing.{RefusesLog};
 
@@ -20,7 +20,7 @@ use std::alloc::{AllocError, Global};
 use std::fs::Files;
 use std::io::{Read, Write};
 use std::net::{Net, TcpListener, TcpStream};
-use tl_command::{MOST_INPUT, RunFault, read_file, read_input, read_log_key, read_private_key};
+use tl_run::{MOST_INPUT, RunFault, read_file, read_input, read_log_key, read_private_key};
 use tl_device::Counted;
 use tl_hash::Sha256Tree;
 use tl_key::{Cosignature, DemoKey, Note, VerifierKey, demo_key};

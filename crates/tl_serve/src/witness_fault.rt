@@ -4,7 +4,7 @@ ghost use Rattle.std.specs.Prelude.{◌≡◌};
 ghost use Rattle.tl_serve.specs.Knowing.{by_state, by_witness};
 
 use std::alloc::{AllocError, AllocFailed};
-use tl_command::RunFault;
+use tl_run::RunFault;
 use tl_device::DeviceFault;
 use tl_logs::{LogsFault, StateFault};
 
@@ -20,7 +20,7 @@ pub enum WitnessFault {
 }
 
 impl From<AllocError> for WitnessFault {
-    ghost use Rattle.tl_command.specs.declared.fault.RunFault.TheVariants.{OutOfMemory};
+    ghost use Rattle.tl_run.specs.declared.fault.RunFault.TheVariants.{OutOfMemory};
     ghost use Rattle.tl_serve.specs.declared.witness_fault.WitnessFault.TheVariants.{Run};
 
     ghost from_gives = { λ _ fault. fault ≡ Run OutOfMemory };
@@ -31,7 +31,7 @@ impl From<AllocError> for WitnessFault {
 }
 
 impl<X: Drop> From<AllocFailed<X>> for WitnessFault {
-    ghost use Rattle.tl_command.specs.declared.fault.RunFault.TheVariants.{OutOfMemory};
+    ghost use Rattle.tl_run.specs.declared.fault.RunFault.TheVariants.{OutOfMemory};
     ghost use Rattle.tl_serve.specs.declared.witness_fault.WitnessFault.TheVariants.{Run};
 
     ghost from_gives = { λ _ fault. fault ≡ Run OutOfMemory };

@@ -18,7 +18,7 @@ use std::sync::Wait;
 use std::thread;
 use std::thread::Scope;
 use std::time::{Clock, SystemTime, UNIX_EPOCH};
-use tl_command::RunFault;
+use tl_run::RunFault;
 use tl_device::Counted;
 use tl_loop::Event;
 use tl_server::{Outcome, ServeFault, Submits, Witness, serve_witness};

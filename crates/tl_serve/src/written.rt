@@ -9,7 +9,7 @@ ghost use Rattle.tl_serve.specs.Inner.Saving.{link_lines, link_of};
 use std::alloc::{AllocError, Allocator, Global};
 use std::io::Write;
 use std::marker::Model;
-use tl_command::print_text;
+use tl_run::print_text;
 use tl_device::Counted;
 use tl_hash::Hash;
 use tl_proof::Link;

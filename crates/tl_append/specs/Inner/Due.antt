@@ -11,7 +11,7 @@ use Rattle.tl_archive.specs.Complete.{KeptSafe}
 use Rattle.tl_ledger.specs.Standing.{Ledger, IsStanding}
 use Rattle.tl_ledger.specs.Keeping.{IsKeeping, published}
 use Rattle.tl_ledger.specs.Spent.{LacksSpent}
-use Rattle.tl_command.specs.Mirror.{LogKey, checkpoint_note}
+use Rattle.tl_run.specs.Signing.{LogKey, checkpoint_note}
 use Rattle.tl_append.specs.Appending.{Course, WasThere, publication_line}
 use Rattle.tl_append.specs.declared.due.Due.{Due}
 

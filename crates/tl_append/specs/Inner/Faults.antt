@@ -5,10 +5,10 @@ use Rattle.tl_tile.specs.declared.resource.Resource.TheVariants as resource
 use Rattle.tl_archive.specs.declared.fault.ShelfFault.{ShelfFault}
 use Rattle.tl_checkpoint.specs.declared.opening.OpenCheckpointFault.{OpenCheckpointFault}
 use Rattle.tl_checkpoint.specs.declared.opening.OpenCheckpointFault.TheVariants as unopened
-use Rattle.tl_command.specs.Faults.{after_device}
-use Rattle.tl_command.specs.declared.fault.RunFault.{RunFault}
-use Rattle.tl_command.specs.declared.fault.RunFault.TheVariants as run
-use Rattle.tl_command.specs.declared.place.Place.TheVariants.{Log}
+use Rattle.tl_run.specs.Faults.{after_device}
+use Rattle.tl_run.specs.declared.fault.RunFault.{RunFault}
+use Rattle.tl_run.specs.declared.fault.RunFault.TheVariants as run
+use Rattle.tl_run.specs.declared.place.Place.TheVariants.{Log}
 use Rattle.tl_ledger.specs.declared.fault.LedgerFault.{LedgerFault}
 use Rattle.tl_ledger.specs.declared.fault.LedgerFault.TheVariants as ledger
 use Rattle.tl_ledger.specs.declared.marking.MarkFault.{MarkFault}

@@ -4,7 +4,7 @@ use Rattle.tl_hash.specs.Bytes.{Bytes}
 use Rattle.tl_device.specs.Device.{HasFailed, Passage}
 use Rattle.tl_lines.specs.Lines.{Uncut, unread}
 use Rattle.tl_lines.specs.Reading.{TellsAll, all_entries}
-use Rattle.tl_command.specs.Mirror.{LogKey}
+use Rattle.tl_run.specs.Signing.{LogKey}
 use Rattle.tl_append.specs.Appending.{AppendsThen, AreBatches, AreFirst, Course, HasCheckpoint, LacksSpentByLast, PrintsHeads, WereThere, joined}
 use Rattle.tl_append.specs.Inner.Due.{IsSigned}
 use Rattle.tl_append.specs.declared.due.Due.{Due}

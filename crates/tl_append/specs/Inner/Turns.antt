@@ -6,7 +6,7 @@ use Rattle.tl_log.specs.Histories.{Prefix}
 use Rattle.tl_ledger.specs.Standing.{Ledger, IsStanding}
 use Rattle.tl_ledger.specs.Keeping.{IsKeeping}
 use Rattle.tl_ledger.specs.Spent.{IsShown}
-use Rattle.tl_command.specs.Mirror.{LogKey, checkpoint_note}
+use Rattle.tl_run.specs.Signing.{LogKey, checkpoint_note}
 use Rattle.tl_append.specs.Appending.{Course, published_after}
 use Rattle.tl_append.specs.Cosigning.{HasCosigned, Quorum, ShowsThen, Turn, shown_after}
 

@@ -2,8 +2,8 @@
 use Rattle.std.specs.Prelude.{◌⊎◌, ℕ, Result, Ok, Err}
 use Rattle.tl_device.specs.Device.{Passage}
 use Rattle.tl_ledger.specs.Opening.{Found}
-use Rattle.tl_command.specs.Mirror.{LogKey}
-use Rattle.tl_command.specs.declared.fault.RunFault.{RunFault}
+use Rattle.tl_run.specs.Signing.{LogKey}
+use Rattle.tl_run.specs.declared.fault.RunFault.{RunFault}
 use Rattle.tl_append.specs.Running.{GoesOnPart, GoesOnWhole, Stays, Visit}
 
 -- how a log goes on under its key, in batches of this size

@@ -11,7 +11,8 @@ use crate::job::Job;
 use clap::ArgMatches;
 use std::alloc::Global;
 use tl_append::AppendOptions;
-use tl_command::{BuildOptions, LogKey, SignedOptions};
+use tl_command::{BuildOptions, SignedOptions};
+use tl_run::LogKey;
 
 // What is said where a resource and a folder are given.
 const ONE_OUTPUT: &str = "--get and --dir are not given together";

@@ -5,7 +5,7 @@ use super::{WordsFault, fault_of};
 use clap::ArgMatches;
 use clap::error::ErrorKind;
 use std::alloc::{AllocError, Global};
-use tl_command::LogKey;
+use tl_run::LogKey;
 
 /// The fault where a word isn't there, though the command line was understood: without a text.
 pub(super) fn no_word(alloc: Global) -> WordsFault {

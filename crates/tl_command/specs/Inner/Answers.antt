@@ -4,8 +4,8 @@ use Rattle.tl_text.specs.Text.{line}
 use Rattle.tl_proof.specs.Collisions.{IsPrefix}
 use Rattle.tl_command.specs.AuditText.{Audit, IsAudit, audit_text}
 use Rattle.tl_command.specs.declared.commands.audit.Answer.{Answer}
-use Rattle.tl_command.specs.declared.fault.RunFault.{RunFault}
-use Rattle.tl_command.specs.declared.fault.RunFault.TheVariants.{Malformed, OutOfMemory}
+use Rattle.tl_run.specs.declared.fault.RunFault.{RunFault}
+use Rattle.tl_run.specs.declared.fault.RunFault.TheVariants.{Malformed, OutOfMemory}
 use Rattle.tl_command.specs.AuditCommand.{IsAccepted, AuditRefuses, IsAuditOf}
 use Rattle.tl_hash.specs.Bytes.{Bytes, Digest}
 

@@ -8,8 +8,8 @@ use Rattle.tl_command.specs.Lines.{entries_of, lines_text}
 use Rattle.tl_command.specs.ProofText.{Proof, IsProof, proof_lines, proof_text, proof_size, proof_root, proof_leaf, Accepts}
 use Rattle.tl_command.specs.ProofCommands.{Subject, AreOf}
 use Rattle.tl_command.specs.declared.commands.check.Finding.{Finding}
-use Rattle.tl_command.specs.declared.fault.RunFault.{RunFault}
-use Rattle.tl_command.specs.declared.fault.RunFault.TheVariants.{Refused, Write, Malformed, OutOfMemory}
+use Rattle.tl_run.specs.declared.fault.RunFault.{RunFault}
+use Rattle.tl_run.specs.declared.fault.RunFault.TheVariants.{Refused, Write, Malformed, OutOfMemory}
 
 -- what is found says whether the proof is accepted, and what it is about
 pub record IsFinding (p : Proof) (c : Finding) : Type 0 where

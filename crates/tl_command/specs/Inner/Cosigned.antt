@@ -7,8 +7,8 @@ use Rattle.tl_checkpoint.specs.Cosignature.{ChecksCosignature, IsCosignature}
 use Rattle.tl_command.specs.OpenCosigned.{HasNoLine, IsFirst, IsMessageOf, IsOfNoLine, IsWrongAt}
 use Rattle.tl_command.specs.declared.commands.cosigned.Found.{Found}
 use Rattle.tl_command.specs.declared.commands.cosigned.Found.TheVariants.{Time, Wrong, Nothing}
-use Rattle.tl_command.specs.declared.fault.RunFault.{RunFault}
-use Rattle.tl_command.specs.declared.fault.RunFault.TheVariants.{Malformed, OutOfMemory, WrongSignature, Unverified}
+use Rattle.tl_run.specs.declared.fault.RunFault.{RunFault}
+use Rattle.tl_run.specs.declared.fault.RunFault.TheVariants.{Malformed, OutOfMemory, WrongSignature, Unverified}
 
 -- what the first line of the key is, of lines of which the first has the place `from`
 abbrev pub Finds : Bytes → Key → List Signature → ℕ → Found → Type 0

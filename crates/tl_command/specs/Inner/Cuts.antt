@@ -4,8 +4,8 @@ use Rattle.tl_hash.specs.Bytes.{Bytes}
 use Rattle.tl_tile.specs.Bundle.{AreShortEntries}
 use Rattle.tl_command.specs.Inner.Growing.{BeginsWith}
 use Rattle.tl_command.specs.Lines.{entries_of, first_too_long, lines_text, HasNoNewline}
-use Rattle.tl_command.specs.declared.fault.RunFault.{RunFault}
-use Rattle.tl_command.specs.declared.fault.RunFault.TheVariants.{EntryTooLong, OutOfMemory}
+use Rattle.tl_run.specs.declared.fault.RunFault.{RunFault}
+use Rattle.tl_run.specs.declared.fault.RunFault.TheVariants.{EntryTooLong, OutOfMemory}
 
 -- the text is so many whole lines, each with its newline
 pub record AreWholeLines (text : Bytes) (count : ℕ) : Type 0 where

@@ -5,10 +5,11 @@ use Rattle.tl_hash.specs.Bytes.{Bytes}
 use Rattle.tl_tile.specs.RightEdge.{EdgeContents, IsEdgeOf}
 use Rattle.tl_device.specs.Device.{Passage, IsSteady, HasFailed, ReadWhole, ReadPast}
 use Rattle.tl_command.specs.Lines.{entries_of, first_too_long, is_too_long, lines_text, HasNoNewline}
-use Rattle.tl_command.specs.Run.{most_input, ReadTooLong}
+use Rattle.tl_run.specs.Run.{most_input}
+use Rattle.tl_command.specs.Entries.{ReadTooLong}
 use Rattle.tl_command.specs.declared.growing.Growing.{Growing}
-use Rattle.tl_command.specs.declared.fault.RunFault.{RunFault}
-use Rattle.tl_command.specs.declared.fault.RunFault.TheVariants.{Read, TooLarge, EntryTooLong, OutOfMemory}
+use Rattle.tl_run.specs.declared.fault.RunFault.{RunFault}
+use Rattle.tl_run.specs.declared.fault.RunFault.TheVariants.{Read, TooLarge, EntryTooLong, OutOfMemory}
 
 -- the edge is that of the lines, or the place of the first that is too long is noted
 abbrev pub IsTold : {A : Type 0} → Growing A → List Bytes → Type 0

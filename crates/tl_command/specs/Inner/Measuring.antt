@@ -9,8 +9,8 @@ use Rattle.tl_device.specs.Device.{Passage, ReadWhole}
 use Rattle.tl_command.specs.Inner.BundleLengths.{AreBundleLengths}
 use Rattle.tl_command.specs.Inner.Growing.{ReadsEdge}
 use Rattle.tl_command.specs.Lines.{entries_of, first_too_long, lines_text, HasNoNewline}
-use Rattle.tl_command.specs.Run.{most_input}
-use Rattle.tl_command.specs.declared.fault.RunFault.{RunFault}
+use Rattle.tl_run.specs.Run.{most_input}
+use Rattle.tl_run.specs.declared.fault.RunFault.{RunFault}
 use Rattle.tl_command.specs.declared.growing.measuring.Measuring.{Measuring}
 
 -- the input so far is whole lines and the beginning of one more; of these lines each 256 are a full bundle, whose

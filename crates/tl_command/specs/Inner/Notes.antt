@@ -8,9 +8,9 @@ use Rattle.tl_checkpoint.specs.declared.opening.OpenCheckpointFault.{OpenCheckpo
 use Rattle.tl_checkpoint.specs.declared.opening.OpenCheckpointFault.TheVariants as opening
 use Rattle.tl_checkpoint.specs.Checkpoint.{head_of}
 use Rattle.tl_checkpoint.specs.OpenCheckpoint.{IsSignedCheckpoint}
-use Rattle.tl_command.specs.declared.fault.RunFault.{RunFault}
-use Rattle.tl_command.specs.declared.fault.RunFault.TheVariants.{BadCheckpoint, WrongSignature, Unverified, OutOfMemory}
-use Rattle.tl_command.specs.declared.place.Place.TheVariants.{File}
+use Rattle.tl_run.specs.declared.fault.RunFault.{RunFault}
+use Rattle.tl_run.specs.declared.fault.RunFault.TheVariants.{BadCheckpoint, WrongSignature, Unverified, OutOfMemory}
+use Rattle.tl_run.specs.declared.place.Place.TheVariants.{File}
 use Rattle.tl_command.specs.Open.{after_note, IsWrongNote, IsUnknownNote}
 use Rattle.tl_command.specs.CheckOpened.{IsNoCheckpoint}
 

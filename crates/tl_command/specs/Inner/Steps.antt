@@ -4,11 +4,13 @@ use Rattle.std.specs.declared.vec.Vec.{Vec}
 use Rattle.tl_hash.specs.Bytes.{Bytes}
 use Rattle.tl_tile.specs.declared.resource.Resource.{Resource}
 use Rattle.tl_tile.specs.Path.{IsResource, path_text}
-use Rattle.tl_command.specs.declared.fault.RunFault.{RunFault}
-use Rattle.tl_command.specs.declared.fault.RunFault.TheVariants.{BadPath, NotThere, OutOfMemory}
+use Rattle.tl_run.specs.declared.fault.RunFault.{RunFault}
+use Rattle.tl_run.specs.declared.fault.RunFault.TheVariants.{BadPath, NotThere, OutOfMemory}
 use Rattle.tl_command.specs.Lines.{entries_of, first_too_long}
-use Rattle.tl_command.specs.Run.{Output, Prints, PrintsRefusal, Fails, IsEntryFault}
-use Rattle.tl_command.specs.Mirror.{LogKey, checkpoint_note, mirrored, resource_text, listing_text}
+use Rattle.tl_run.specs.Run.{Output, Prints, PrintsRefusal, Fails}
+use Rattle.tl_command.specs.Entries.{IsEntryFault}
+use Rattle.tl_run.specs.Signing.{LogKey, checkpoint_note}
+use Rattle.tl_command.specs.Mirror.{mirrored, resource_text, listing_text}
 use Rattle.tl_command.specs.Build.{IsLawfulPath}
 
 -- the resource with the path that was asked for

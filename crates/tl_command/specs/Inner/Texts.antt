@@ -2,8 +2,8 @@
 use Rattle.std.specs.Prelude.{◌≡◌, Result, Ok, Err}
 use Rattle.tl_note.specs.Key.{IsKeyName}
 use Rattle.tl_key.specs.NoteKey.{SeedKey}
-use Rattle.tl_command.specs.declared.fault.RunFault.{RunFault}
-use Rattle.tl_command.specs.declared.fault.RunFault.TheVariants.{BadName, OutOfMemory}
+use Rattle.tl_run.specs.declared.fault.RunFault.{RunFault}
+use Rattle.tl_run.specs.declared.fault.RunFault.TheVariants.{BadName, OutOfMemory}
 
 -- the key that was wanted, or that its name is no key's
 abbrev pub MakesKey : SeedKey → Result SeedKey RunFault → Type 0

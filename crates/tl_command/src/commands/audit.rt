@@ -7,17 +7,16 @@ ghost use Rattle.tl_command.specs.Inner.Shown.{audit_shown};
 ghost use Rattle.tl_command.specs.AuditCommand.{AuditComes};
 ghost use Rattle.tl_command.specs.Inner.Answers.{AnswersAudit, AnswersAuditText};
 ghost use Rattle.tl_device.specs.Device.{passage};
-ghost use Rattle.tl_command.specs.Run.{Runs};
+ghost use Rattle.tl_run.specs.Run.{Runs};
 
 use crate::audit_text::{AuditParts, read_audit};
-use crate::fault::RunFault;
 use crate::lines::lines_of;
-use crate::streams::{MOST_INPUT, print_text, read_input};
 use std::alloc::{AllocError, Allocator};
 use std::io::{Read, Write};
 use tl_device::Counted;
 use tl_hash::TreeHash;
 use tl_proof::{AuditFault, Verdict, audit_tree};
+use tl_run::{RunFault, MOST_INPUT, print_text, read_input};
 
 // What is printed of an audit, and whether the answer is yes.
 #[derive(Drop)]

@@ -3,31 +3,29 @@
 ghost use Rattle.std.specs.Prelude.{◌≡◌, ◌<◌, ◌^◌, ◌↔◌, ◌⊎◌, IsTrue, IfErr, IfOk, MatchBool, Contains, None, Some, length, option_map};
 ghost use Rattle.tl_note.specs.Key.{IsKeyName};
 ghost use Rattle.tl_device.specs.Device.{passage};
-ghost use Rattle.tl_command.specs.Run.{Runs};
-ghost use Rattle.tl_command.specs.Mirror.{checkpoint_note, mirrored, resource_text};
+ghost use Rattle.tl_run.specs.Run.{Runs};
+ghost use Rattle.tl_run.specs.Signing.{checkpoint_note};
+ghost use Rattle.tl_command.specs.Mirror.{mirrored, resource_text};
 ghost use Rattle.tl_command.specs.Build.{RunsBuild};
 ghost use Rattle.tl_command.specs.Inner.Steps.{ReadsPath, AnswersWanted, WantedComes};
 
 pub(crate) mod checkpoint_note;
 pub(crate) mod listing;
-pub(crate) mod log_signer;
 pub(crate) mod resource_bytes;
 pub(crate) mod signed;
 
-use crate::fault::RunFault;
 use crate::growing::reading::read_measured;
 use crate::line_marks::LineMarks;
 use crate::log_lines::LogLines;
-use crate::streams::{MOST_INPUT, print_text, read_input};
 use checkpoint_note::checkpoint_note_of;
 use listing::{listing_of, mirrored_of};
-use log_signer::LogSigner;
 use resource_bytes::{bundle_of, tile_of};
 use std::alloc::{Allocator, Global};
 use std::io::{Read, Write};
 use std::thread::Threads;
 use tl_device::Counted;
 use tl_note::is_key_name;
+use tl_run::{LogSigner, MOST_INPUT, RunFault, print_text, read_input};
 use tl_tile::{Resource, parse_path};
 
 /// The options of `build` with a demonstration key.

@@ -6,17 +6,16 @@ ghost use Rattle.tl_command.specs.ProofText.{Proof, Included, Consistent, IsProo
 ghost use Rattle.tl_command.specs.ProofShown.{consistency_shown, inclusion_shown};
 ghost use Rattle.tl_command.specs.ProofCommands.{CheckAboutComes, CheckComes};
 ghost use Rattle.tl_command.specs.Inner.Checks.{FindsInText, HasFinding, IsFinding, IsFindingAbout, PrintsAnswer};
-ghost use Rattle.tl_command.specs.Run.{Runs};
+ghost use Rattle.tl_run.specs.Run.{Runs};
 
-use crate::fault::RunFault;
 use crate::lines::lines_of;
 use crate::proof_text::{ConsistencyProof, InclusionProof, read_consistency, read_inclusion};
-use crate::streams::{MOST_INPUT, print_text, read_input};
 use std::alloc::{AllocError, Allocator};
 use std::io::{Read, Write};
 use tl_device::Counted;
 use tl_hash::{Hash, Sha256Tree, leaf_hash};
 use tl_proof::{check_record, check_tree};
+use tl_run::{RunFault, MOST_INPUT, print_text, read_input};
 
 // What the text of a proof says, and whether the proof is accepted.
 #[derive(Clone, Copy)]

@@ -10,15 +10,13 @@ ghost use Rattle.tl_command.specs.Inner.Notes.{OpensBytes, after_opening};
 
 use crate::commands::check::run_check_about;
 use crate::commands::opening::note_refusal;
-use crate::fault::RunFault;
-use crate::keys::read_log_key;
-use crate::place::Place;
 use std::alloc::Global;
 use std::io::{Read, Write};
 use std::str;
 use tl_checkpoint::{Checkpoint, OpenCheckpointFault, open_checkpoint};
 use tl_device::Counted;
 use tl_note::{NoteFault, Verifier};
+use tl_run::{Place, RunFault, read_log_key};
 
 /// An entry, as the words of a command give it.
 #[derive(Drop)]

@@ -4,15 +4,13 @@ ghost use Rattle.std.specs.Prelude.{◌≡◌, ◌↔◌, ◌+◌, ◌≤◌, If
 ghost use Rattle.tl_checkpoint.specs.Cosignature.{IsOfKey};
 ghost use Rattle.tl_command.specs.Inner.Cosigned.{Finds, GivesMessage};
 ghost use Rattle.tl_command.specs.OpenCosigned.{CosignedComes};
-ghost use Rattle.tl_command.specs.Run.{Runs};
+ghost use Rattle.tl_run.specs.Run.{Runs};
 ghost use Rattle.tl_device.specs.Device.{passage};
 ghost use Rattle.tl_key.specs.KeyText.{IsVerifierText};
 ghost use Rattle.tl_key.specs.NoteKey.{PublicKey, cosignature_kind};
 ghost use Rattle.tl_key.specs.Reading.{IsNoVerifierText};
 
 use crate::commands::opening::note_refusal;
-use crate::fault::RunFault;
-use crate::streams::{MOST_INPUT, print_text, read_input};
 use std::alloc::{AllocError, Global};
 use std::io::{Read, Write};
 use std::str;
@@ -20,6 +18,7 @@ use tl_checkpoint::{check_cosignature, cosign_message};
 use tl_device::Counted;
 use tl_key::{CosignerVerifier, KeyFault, read_verifier_key};
 use tl_note::{SigView, Verifier, parse_note};
+use tl_run::{RunFault, MOST_INPUT, print_text, read_input};
 
 // What the lines of a note are to a key.
 #[derive(Clone, Copy)]

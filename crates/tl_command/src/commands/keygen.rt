@@ -8,13 +8,12 @@ ghost use Rattle.tl_command.specs.Inner.Texts.{MakesKey};
 ghost use Rattle.tl_command.specs.Keygen.{GivesKey};
 ghost use Rattle.tl_text.specs.Text.{line};
 
-use crate::fault::RunFault;
-use crate::streams::print_text;
 use std::alloc::{AllocError, Global};
 use std::io::Write;
 use std::random::RandomSource;
 use tl_device::Counted;
 use tl_key::{KeyFault, KeyKind, SignerKey, write_signer_key, write_verifier_key};
+use tl_run::{RunFault, print_text};
 
 /// The options of `keygen`.
 #[derive(Drop)]

@@ -1,21 +1,19 @@
 //! The command `open`: what a key signed of a note.
 
 ghost use Rattle.std.specs.Prelude.{◌≡◌, ◌∷◌, [], map, vec_items};
-ghost use Rattle.tl_command.specs.Run.{Runs};
+ghost use Rattle.tl_run.specs.Run.{Runs};
 ghost use Rattle.tl_device.specs.Device.{passage};
 ghost use Rattle.tl_key.specs.NoteKey.{PublicKey, cosignature_kind, note_kind, verifier_key};
 ghost use Rattle.tl_key.specs.KeyText.{IsVerifierText};
 ghost use Rattle.tl_command.specs.Open.{OpenComes, OpensSigned, RunsOpen, after_note};
 
 use crate::commands::cosigned::{open_cosigned, read_cosigner};
-use crate::fault::RunFault;
-use crate::keys::read_log_key;
-use crate::streams::{MOST_INPUT, print_text, read_input};
 use std::alloc::Global;
 use std::io::{Read, Write};
 use std::str;
 use tl_device::Counted;
 use tl_note::{NoteFault, Verifier, open_note};
+use tl_run::{RunFault, MOST_INPUT, print_text, read_input, read_log_key};
 
 /// Why a note doesn't open, as a fault of a command: `WrongSignature` has the place of the line, counted from 0; what
 /// is no note is `Malformed`.

@@ -4,22 +4,21 @@ ghost use Rattle.std.specs.Prelude.{◌≡◌, ◌<◌, ◌≤◌, length, IfErr
 ghost use Rattle.tl_device.specs.Device.{passage};
 ghost use Rattle.tl_command.specs.ProofText.{inclusion_text, consistency_text};
 ghost use Rattle.tl_command.specs.ProofCommands.{inclusion_of, InclusionComes, consistency_of, ConsistencyComes};
-ghost use Rattle.tl_command.specs.Run.{Runs};
+ghost use Rattle.tl_run.specs.Run.{Runs};
 
 pub(crate) mod consistency;
 pub(crate) mod inclusion;
 
-use crate::fault::RunFault;
 use crate::line_marks::LineMarks;
 use crate::log_lines::LogLines;
 use crate::proof_text::{consistency_bytes, inclusion_bytes};
-use crate::streams::{MOST_INPUT, print_text, read_input};
 use consistency::consistency_over;
 use inclusion::inclusion_over;
 use std::alloc::Allocator;
 use std::io::{Read, Write};
 use std::thread::Threads;
 use tl_device::Counted;
+use tl_run::{RunFault, MOST_INPUT, print_text, read_input};
 
 /// Reads the whole input and writes the text of the inclusion proof (RFC 6962, section 2.1.1) of the line at `index`,
 /// counted from 0, in the tree of all its lines under SHA-256. An index that isn't below the number of lines is

@@ -7,15 +7,14 @@ ghost use Rattle.tl_command.specs.Inner.Measuring.{ReadsMeasured};
 ghost use Rattle.tl_command.specs.Lines.{entries_of};
 ghost use Rattle.tl_device.specs.Device.{passage};
 
-use crate::fault::RunFault;
 use crate::growing::Growing;
 use crate::growing::measuring::Measuring;
-use crate::streams::MOST_INPUT;
 use std::alloc::{AllocError, Allocator};
 use std::io::Read;
 use std::thread::Threads;
 use tl_device::Counted;
 use tl_hash::Sha256Tree;
+use tl_run::{RunFault, MOST_INPUT};
 use tl_tile::Edge;
 
 // How many bytes of the input are kept at once, 1 MiB.

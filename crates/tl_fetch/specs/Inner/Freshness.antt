@@ -4,7 +4,7 @@ use Rattle.tl_hash.specs.Bytes.{Bytes}
 use Rattle.tl_note.specs.Key.{Key}
 use Rattle.tl_note.specs.Note.{HasNoNote, Note, Signature}
 use Rattle.tl_checkpoint.specs.Cosignature.{IsCosignature}
-use Rattle.tl_command.specs.declared.fault.RunFault.TheVariants.{OutOfMemory}
+use Rattle.tl_run.specs.declared.fault.RunFault.TheVariants.{OutOfMemory}
 use Rattle.tl_fetch.specs.declared.fault.FetchFault.{FetchFault}
 use Rattle.tl_fetch.specs.declared.fault.FetchFault.TheVariants.{Run, Stale}
 

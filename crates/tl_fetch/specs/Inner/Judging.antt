@@ -8,7 +8,7 @@ use Rattle.tl_tile.specs.declared.resource.Resource.{Resource}
 use Rattle.tl_proof.specs.Acceptance.{AcceptsConsistency}
 use Rattle.tl_checkpoint.specs.Checkpoint as checkpoint
 use Rattle.tl_command.specs.ProofText.{Consistency}
-use Rattle.tl_command.specs.declared.fault.RunFault.TheVariants.{Write}
+use Rattle.tl_run.specs.declared.fault.RunFault.TheVariants.{Write}
 use Rattle.tl_fork.specs.Evidence.{Disagree}
 use Rattle.tl_fetch.specs.declared.fault.FetchFault.{FetchFault}
 use Rattle.tl_fetch.specs.declared.fault.FetchFault.TheVariants.{Run, Forked}

@@ -21,7 +21,7 @@ use crate::state::TrustStore;
 use std::alloc::{AllocError, Global};
 use std::io::Write;
 use tl_client::{Head, ResourceSource};
-use tl_command::{RunFault, print_text};
+use tl_run::{RunFault, print_text};
 use tl_device::Counted;
 use tl_note::Verifier;
 

@@ -13,7 +13,7 @@ use Rattle.tl_loop.specs.declared.publish_loop.PublishLoop.{PublishLoop}
 use Rattle.tl_loop.specs.PublishLoop.{after, step_of}
 use Rattle.tl_loop.specs.Order.{Owed, after_all, publication, telling}
 use Rattle.tl_sequencer.specs.Log.{End, Log}
-use Rattle.tl_command.specs.declared.fault.RunFault.{RunFault}
+use Rattle.tl_run.specs.declared.fault.RunFault.{RunFault}
 use Rattle.tl_serve.specs.declared.running.Running.{Running}
 use Rattle.tl_serve.specs.Inner.Rounds.{TakesEnds, TakesRound}
 use Rattle.tl_serve.specs.Inner.Telling.{Tells, told_head, told_input_ended, told_too_long}

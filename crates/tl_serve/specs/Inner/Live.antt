@@ -1,7 +1,7 @@
 -- What the calls of a running log return, by what its lanes and its publications are.
 use Rattle.std.specs.Prelude.{◌≡◌, ℕ, ◌≤◌, Bool, true, false, Option, Some, None, Result, Ok, Err, length}
-use Rattle.tl_command.specs.declared.fault.RunFault.{RunFault}
-use Rattle.tl_command.specs.declared.fault.RunFault.TheVariants as run
+use Rattle.tl_run.specs.declared.fault.RunFault.{RunFault}
+use Rattle.tl_run.specs.declared.fault.RunFault.TheVariants as run
 use Rattle.tl_publisher.specs.Seen.{Past}
 use Rattle.tl_publisher.specs.Operating.{Operated}
 use Rattle.tl_publisher.specs.Publishing.{Publishes}

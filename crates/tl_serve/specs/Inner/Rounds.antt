@@ -1,7 +1,7 @@
 -- Calls that take entries in, one after another.
 use Rattle.std.specs.Prelude.{◌≡◌, ◌⊎◌, ℕ, ◌+◌, ◌-◌, ◌^◌, min, List, [], ◌∷◌, Result, Ok, Err}
 use Rattle.std.specs.List.{range_with_len}
-use Rattle.tl_command.specs.declared.fault.RunFault.{RunFault}
+use Rattle.tl_run.specs.declared.fault.RunFault.{RunFault}
 use Rattle.tl_sequencer.specs.Log.{End, Log}
 use Rattle.tl_serve.specs.Inner.Live.{TakesIn, TakesRest}
 

@@ -4,7 +4,7 @@ use Rattle.tl_hash.specs.Bytes.{Bytes}
 use Rattle.tl_sequencer.specs.Log.{Log, rings_of}
 use Rattle.tl_archive.specs.Shelves.{Kept}
 use Rattle.tl_ledger.specs.Standing.{Ledger}
-use Rattle.tl_command.specs.Mirror.{LogKey}
+use Rattle.tl_run.specs.Signing.{LogKey}
 use Rattle.tl_append.specs.Cosigning.{Quorum}
 
 -- what a log on a shelf began with: its key, what the shelf kept then and after each call before, and its ledger;

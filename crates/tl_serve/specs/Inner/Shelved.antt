@@ -11,8 +11,8 @@ use Rattle.tl_sequencer.specs.Merge.{IsMerge}
 use Rattle.tl_sequencer.specs.Steps.{IsComplete, sent_of}
 use Rattle.tl_ledger.specs.Opening.{Found}
 use Rattle.tl_ledger.specs.Standing.{IsStanding, Ledger}
-use Rattle.tl_command.specs.Mirror.{LogKey}
-use Rattle.tl_command.specs.declared.fault.RunFault.{RunFault}
+use Rattle.tl_run.specs.Signing.{LogKey}
+use Rattle.tl_run.specs.declared.fault.RunFault.{RunFault}
 use Rattle.tl_append.specs.Appending.{Course}
 use Rattle.tl_append.specs.Cosigning.{Quorum, ShowsAtMost, ShowsBatch, ShowsThen, Turn, entries_of}
 use Rattle.tl_append.specs.Running.{Visit}

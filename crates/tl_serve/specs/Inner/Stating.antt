@@ -11,9 +11,9 @@ use Rattle.tl_logs.specs.LogsFile.{Log}
 use Rattle.tl_logs.specs.State.{KnowsHeads, OriginHead, in_one_step, of_logs}
 use Rattle.tl_logs.specs.StateFaults.{RefusesState}
 use Rattle.tl_logs.specs.declared.state_fault.StateFault.{StateFault}
-use Rattle.tl_command.specs.declared.fault.RunFault.{RunFault}
-use Rattle.tl_command.specs.declared.fault.RunFault.TheVariants.{Chain, OutOfMemory}
-use Rattle.tl_command.specs.Run.{ReadingFails, most_input}
+use Rattle.tl_run.specs.declared.fault.RunFault.{RunFault}
+use Rattle.tl_run.specs.declared.fault.RunFault.TheVariants.{Chain, OutOfMemory}
+use Rattle.tl_run.specs.Run.{ReadingFails, most_input}
 use Rattle.tl_serve.specs.Knowing.{by_state}
 
 -- for each origin the chains say in one step what the state says that was read, of the origins of these logs or of

@@ -3,8 +3,8 @@ use Rattle.std.specs.Prelude.{◌≡◌, ◌⊎◌, ℕ, suc, zero, ◌++◌, Re
 use Rattle.tl_hash.specs.Bytes.{Bytes}
 use Rattle.tl_text.specs.Text.{line, number_text}
 use Rattle.tl_device.specs.Device.{IsUnwritten, Passage, WrotePart, WroteWhole}
-use Rattle.tl_command.specs.declared.fault.RunFault.{RunFault}
-use Rattle.tl_command.specs.declared.fault.RunFault.TheVariants as run
+use Rattle.tl_run.specs.declared.fault.RunFault.{RunFault}
+use Rattle.tl_run.specs.declared.fault.RunFault.TheVariants as run
 use Rattle.tl_append.specs.Appending.{head_line}
 
 -- the writer took this text; or a part of it, and then failed; or nothing, since allocation failed

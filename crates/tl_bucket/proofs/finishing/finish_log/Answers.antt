@@ -3,7 +3,7 @@ use Rattle.std.specs.Prelude.{Result, OnOk}
 use Rattle.std.proofs.lemmas.Grind.{common_steps}
 use Rattle.tl_append.specs.Keys.{log_key_of, opening_key_of}
 use Rattle.tl_append.proofs.Runs.{grows_then, key_name}
-use Rattle.tl_command.specs.declared.fault.RunFault.{RunFault}
+use Rattle.tl_run.specs.declared.fault.RunFault.{RunFault}
 use Rattle.tl_bucket.specs.Buckets.{bucket_kept, bucket_trace}
 use Rattle.tl_bucket.proofs.finishing.finish_log.Goals as goal
 

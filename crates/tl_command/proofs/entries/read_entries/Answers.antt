@@ -1,7 +1,7 @@
 use Rattle.std.proofs.Common.{◌∙◌, ap, sym, position, nat_lt, vec_items, vec_len}
 use Rattle.tl_device.specs.Device.{passage}
 use Rattle.tl_command.specs.Lines.{entries_of, first_too_long}
-use Rattle.tl_command.specs.Run.{ReadsEntries}
+use Rattle.tl_command.specs.Entries.{ReadsEntries}
 use Rattle.tl_command.proofs.Failing.{entries_unread, passed_on}
 use Rattle.tl_command.proofs.LinesLemmas.{too_long_by_len}
 use Rattle.tl_command.proofs.entries.read_entries.Goals as goal

@@ -1,44 +1,13 @@
 //! The checkpoint of a log as a note, signed by the log's key.
 
-ghost use Rattle.std.specs.Prelude.{◌≡◌, List, length, string_bytes, IfOk, IfErr};
-ghost use Rattle.sha2.specs.Sha256.{sha256};
-ghost use Rattle.tl_hash.specs.Bytes.{Bytes};
-ghost use Rattle.tl_hash.specs.Tree.{tree_hash};
-ghost use Rattle.tl_text.specs.Text.{IsSize};
+ghost use Rattle.std.specs.Prelude.{◌≡◌, string_bytes, IfOk, IfErr};
 ghost use Rattle.tl_note.specs.Key.{IsKeyName};
-ghost use Rattle.tl_command.specs.Mirror.{checkpoint_note};
+ghost use Rattle.tl_run.specs.Signing.{checkpoint_note};
 
-use crate::commands::build::log_signer::LogSigner;
-use crate::commands::head::checkpoint_of;
-use crate::fault::RunFault;
 use crate::log_lines::LogLines;
 use std::alloc::{Allocator, Global};
 use std::thread::Threads;
-use tl_hash::Hash;
-
-/// The note of the checkpoint of a log of `size` entries, below 2^63, with this root (C2SP tlog-checkpoint,
-/// signed-note), signed by the log's key. `global` is what the key takes its memory from. It fails for want of memory
-/// alone.
-pub fn sign_checkpoint<K: LogSigner, A: Allocator + Copy>(
-    alloc: A,
-    global: Global,
-    key: &K,
-    size: u64,
-    root: Hash,
-) -> Result<String<A>, RunFault>
-    requires origin { IsKeyName (K.log_key key.now).name }
-    requires size { IsSize size }
-    ensures note { IfOk result (λ note. (entries : List Bytes) → length entries ≡ size
-        → tree_hash sha256 entries ≡ root
-        → string_bytes note ≡ checkpoint_note (K.log_key key.now) entries) }
-    ensures fault { IfErr result (λ fault. fault ≡ RunFault.OutOfMemory) }
-{
-    let mut note = checkpoint_of(alloc, key.origin(), size, root)?;
-    let line = key.line(alloc, global, note.as_str())?;
-    note.push_str("\n")?;
-    note.push_str(line.as_str())?;
-    Ok(note)
-}
+use tl_run::{LogSigner, RunFault, sign_checkpoint};
 
 /// The note of the checkpoint of the log of these lines, signed by the log's key. Up to `threads` threads hash, with
 /// memory from `workers`.

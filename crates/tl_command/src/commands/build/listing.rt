@@ -8,14 +8,13 @@ ghost use Rattle.tl_note.specs.Key.{IsKeyName};
 ghost use Rattle.tl_text.specs.Text.{line, number_text};
 ghost use Rattle.tl_tile.specs.Path.{IsResource, path_text};
 ghost use Rattle.tl_command.specs.Inner.BundleLengths.{AreBundleLengths, HasLength};
-ghost use Rattle.tl_command.specs.Mirror.{checkpoint_note, mirrored, resource_text, listing_text};
+ghost use Rattle.tl_run.specs.Signing.{checkpoint_note};
+ghost use Rattle.tl_command.specs.Mirror.{mirrored, resource_text, listing_text};
 
-use crate::commands::build::checkpoint_note::sign_checkpoint;
-use crate::commands::build::log_signer::LogSigner;
-use crate::fault::RunFault;
 use itoa::Buffer;
 use std::alloc::{AllocError, Allocator, Global};
 use tl_hash::Hash;
+use tl_run::{LogSigner, RunFault, sign_checkpoint};
 use tl_tile::{Resource, needed, path_of};
 
 /// The resources of a log of so many entries: those that it needs, and then the checkpoint.

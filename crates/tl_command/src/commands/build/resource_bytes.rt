@@ -7,10 +7,10 @@ ghost use Rattle.tl_tile.specs.Path.{IsTile};
 ghost use Rattle.tl_tile.specs.ReadTile.{end_of};
 ghost use Rattle.tl_tile.specs.TileText.{tile_text};
 
-use crate::fault::RunFault;
 use crate::log_lines::LogLines;
 use std::alloc::{AllocError, Allocator};
 use std::thread::Threads;
+use tl_run::RunFault;
 use tl_tile::{BundleFault, Tile, write_bundle};
 
 /// The bytes of a tile that lies within the lines: its hashes, each the root of the lines under it, hashed by so many

@@ -4,15 +4,13 @@ ghost use Rattle.std.specs.Prelude.{option_map};
 ghost use Rattle.tl_device.specs.Device.{passage};
 ghost use Rattle.tl_command.specs.Signed.{RunsSigned};
 
-use crate::commands::build::log_signer::LogSigner;
 use crate::commands::build::run_build;
-use crate::fault::RunFault;
-use crate::keys::read_private_key;
 use std::alloc::{Allocator, Global};
 use std::io::{Read, Write};
 use std::thread::Threads;
 use tl_device::Counted;
 use tl_key::Note;
+use tl_run::{LogSigner, RunFault, read_private_key};
 
 /// The options of `build` with a private key.
 #[derive(Drop)]

@@ -2,7 +2,7 @@ use Rattle.std.proofs.Common.{refl}
 use Rattle.std.proofs.KnownBytes.{Keeps-refl}
 use Rattle.tl_device.specs.Device.{passage}
 use Rattle.tl_command.specs.AuditCommand.{AuditComes}
-use Rattle.tl_command.specs.Run.{Runs}
+use Rattle.tl_run.specs.Run.{Runs}
 use Rattle.tl_command.proofs.AuditRuns.{audit_extends, audit_refuses}
 use Rattle.tl_command.proofs.Failing.{audit_fails, passed_on, unread}
 use Rattle.tl_command.proofs.commands.audit.run_audit.Goals as goal

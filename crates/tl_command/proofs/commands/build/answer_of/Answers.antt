@@ -1,6 +1,7 @@
 use Rattle.std.proofs.Common.{refl, ap, ◌∙◌, length, Some, arith}
 use Rattle.std.proofs.lemmas.Grind.{common_steps}
-use Rattle.tl_command.specs.Mirror.{checkpoint_note, mirrored}
+use Rattle.tl_run.specs.Signing.{checkpoint_note}
+use Rattle.tl_command.specs.Mirror.{mirrored}
 use Rattle.tl_command.proofs.Wanted.{not_served, wanted_served, answers_some}
 use Rattle.tl_command.proofs.commands.build.answer_of.Goals as goal
 

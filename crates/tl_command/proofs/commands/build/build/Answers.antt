@@ -6,8 +6,8 @@ use Rattle.tl_command.specs.Inner.Steps.{IsServed, WantedComes}
 use Rattle.tl_command.specs.Mirror.{mirrored}
 use Rattle.tl_command.proofs.Asking.{entry_fails, read_lines}
 use Rattle.tl_command.proofs.Wanted.{answer_cut, answer_fails, answer_printed, asks_for, not_there}
-use Rattle.tl_command.specs.Run.{Runs}
-use Rattle.tl_command.specs.declared.fault.RunFault.TheVariants.{Write}
+use Rattle.tl_run.specs.Run.{Runs}
+use Rattle.tl_run.specs.declared.fault.RunFault.TheVariants.{Write}
 use Rattle.tl_command.proofs.Failing.{handed_on, passed_on, unread}
 use Rattle.tl_command.proofs.commands.build.build.Goals as goal
 

@@ -2,8 +2,8 @@ use Rattle.std.proofs.Common.{None, inl, refl, vec_items}
 use Rattle.std.proofs.KnownBytes.{Keeps-refl}
 use Rattle.tl_device.specs.Device.{passage}
 use Rattle.tl_command.specs.Inner.Steps.{WantedComes}
-use Rattle.tl_command.specs.Run.{Runs}
-use Rattle.tl_command.specs.declared.fault.RunFault.TheVariants.{Write}
+use Rattle.tl_run.specs.Run.{Runs}
+use Rattle.tl_run.specs.declared.fault.RunFault.TheVariants.{Write}
 use Rattle.tl_command.proofs.Failing.{handed_on}
 use Rattle.tl_command.proofs.Wanted.{list_came, list_fails, list_refused}
 use Rattle.tl_command.proofs.commands.build.list.Goals as goal

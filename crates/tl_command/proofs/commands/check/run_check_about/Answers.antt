@@ -4,7 +4,7 @@ use Rattle.tl_command.specs.ProofCommands.{CheckAboutComes, IsAbout, Subject}
 use Rattle.tl_command.proofs.Checking.{about_means, answered, good_comes}
 use Rattle.std.proofs.KnownBytes.{Keeps-refl}
 use Rattle.tl_device.specs.Device.{passage}
-use Rattle.tl_command.specs.Run.{Runs}
+use Rattle.tl_run.specs.Run.{Runs}
 use Rattle.tl_command.proofs.Failing.{finding_fails, passed_on, unread}
 use Rattle.tl_command.proofs.commands.check.run_check_about.Goals as goal
 

@@ -3,7 +3,7 @@ use Rattle.std.proofs.lemmas.Grind.{common_steps}
 use Rattle.std.proofs.KnownBytes.{Keeps-refl}
 use Rattle.tl_device.specs.Device.{passage}
 use Rattle.tl_command.specs.CheckOpened.{RunsCheckOpened}
-use Rattle.tl_command.specs.declared.fault.RunFault.TheVariants.{OutOfMemory}
+use Rattle.tl_run.specs.declared.fault.RunFault.TheVariants.{OutOfMemory}
 use Rattle.tl_command.proofs.Failing.{key_fails, passed_on}
 use Rattle.tl_command.proofs.commands.checking.run_check_opened.Goals as goal
 

@@ -2,7 +2,7 @@ use Rattle.std.proofs.Common.{rules, refl, ◌∙◌, string_bytes, vec_items}
 use Rattle.tl_command.proofs.NoteBytes.{note_utf8}
 use Rattle.std.proofs.KnownBytes.{Keeps-refl}
 use Rattle.tl_device.specs.Device.{passage}
-use Rattle.tl_command.specs.Run.{Runs}
+use Rattle.tl_run.specs.Run.{Runs}
 use Rattle.tl_command.proofs.CosignedRuns.{printed_as, refused_as}
 use Rattle.tl_command.proofs.Failing.{passed_on, unread}
 use Rattle.tl_command.proofs.commands.cosigned.open_cosigned.Goals as goal

@@ -3,7 +3,7 @@ use Rattle.std.proofs.lemmas.Grind.{common_steps}
 use Rattle.std.proofs.KnownBytes.{Keeps-refl}
 use Rattle.tl_device.specs.Device.{passage}
 use Rattle.tl_command.specs.Head.{RunsHead}
-use Rattle.tl_command.specs.declared.fault.RunFault.TheVariants.{OutOfMemory, Write}
+use Rattle.tl_run.specs.declared.fault.RunFault.TheVariants.{OutOfMemory, Write}
 use Rattle.tl_command.proofs.Asking.{head_came, head_fault, asks_of_head}
 use Rattle.tl_command.proofs.Failing.{handed_on, passed_on}
 use Rattle.tl_command.proofs.commands.head.run_head.Goals as goal

@@ -5,8 +5,8 @@ use Rattle.tl_command.specs.ProofCommands.{ConsistencyComes}
 use Rattle.tl_command.proofs.Asking.{asks_of_old, entry_fails, read_lines}
 use Rattle.tl_command.proofs.ProofRuns.{consistency_came, no_old}
 use Rattle.tl_device.specs.Device.{passage}
-use Rattle.tl_command.specs.Run.{Runs}
-use Rattle.tl_command.specs.declared.fault.RunFault.TheVariants.{OutOfMemory, Write}
+use Rattle.tl_run.specs.Run.{Runs}
+use Rattle.tl_run.specs.declared.fault.RunFault.TheVariants.{OutOfMemory, Write}
 use Rattle.tl_command.proofs.Failing.{handed_on, passed_on, unread}
 use Rattle.tl_command.proofs.commands.proving.run_consistency.Goals as goal
 

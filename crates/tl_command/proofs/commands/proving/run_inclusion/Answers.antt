@@ -5,8 +5,8 @@ use Rattle.tl_command.specs.ProofCommands.{InclusionComes}
 use Rattle.tl_command.proofs.Asking.{entry_fails, gave_line, read_lines}
 use Rattle.tl_command.proofs.ProofRuns.{inclusion_came, no_index}
 use Rattle.tl_device.specs.Device.{passage}
-use Rattle.tl_command.specs.Run.{Runs}
-use Rattle.tl_command.specs.declared.fault.RunFault.TheVariants.{OutOfMemory, Write}
+use Rattle.tl_run.specs.Run.{Runs}
+use Rattle.tl_run.specs.declared.fault.RunFault.TheVariants.{OutOfMemory, Write}
 use Rattle.tl_command.proofs.Failing.{handed_on, passed_on, unread}
 use Rattle.tl_command.proofs.commands.proving.run_inclusion.Goals as goal
 

@@ -1,6 +1,7 @@
 use Rattle.std.proofs.Common.{◌≡◌, ◌<◌, ◌^◌, ◌∙◌, List, ℕ, length, ap, sym, subst, All}
 use Rattle.std.specs.Prelude.{Contains}
-use Rattle.tl_command.specs.Mirror.{checkpoint_note, listing_text, mirrored}
+use Rattle.tl_run.specs.Signing.{checkpoint_note}
+use Rattle.tl_command.specs.Mirror.{listing_text, mirrored}
 use Rattle.tl_command.proofs.Lengths.{has_length}
 use Rattle.tl_command.proofs.NeededParts.{lies, lawful}
 use Rattle.tl_command.proofs.Wanted.{has_all}

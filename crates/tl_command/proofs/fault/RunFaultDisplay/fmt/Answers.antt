@@ -1,6 +1,0 @@
-use Rattle.std.proofs.Common.{arith}
-use Rattle.std.proofs.lemmas.Grind.{common_steps}
-use Rattle.tl_command.proofs.fault.RunFaultDisplay.fmt.Goals as goal
-
-pub returns-in-Device-clause-writes : goal.returns-in-Device-clause-writes
-returns-in-Device-clause-writes g c = grind (arith, common_steps)
