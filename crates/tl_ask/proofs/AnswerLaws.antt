@@ -4,8 +4,8 @@ use Rattle.std.proofs.lemmas.Fmt.{decimal_injective}
 use Rattle.tl_text.specs.Text.{line, number_text}
 use Rattle.tl_text.proofs.Lines.{one_line}
 use Rattle.tl_text.proofs.PlainText.{number_plain}
-use Rattle.tl_get.specs.Post.{Replied, Replies}
-use Rattle.tl_get.proofs.ResponseLaws.{one_reply}
+use Rattle.tl_http.specs.Post.{Replied, Replies}
+use Rattle.tl_http.proofs.ResponseLaws.{one_reply}
 use Rattle.tl_ask.specs.Answer.{At, AnswerDecides, Answered, IsSizeLine, LinesDecide, SizeDecides}
 use Rattle.tl_ask.specs.Asking.{most_answer}
 use Rattle.tl_ask.specs.declared.fault.AskFault.TheVariants.{OutOfMemory}

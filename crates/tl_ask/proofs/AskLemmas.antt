@@ -1,8 +1,8 @@
 -- From the steps of a question to the whole.
 use Rattle.std.proofs.Common.{◌≡◌, ◌⊎◌, ℕ, zero, suc, List, [], ◌∷◌, Contains, Ok, arith, codes, inl, inr, subst, sym}
 use Rattle.tl_device.specs.Device.{Passage}
-use Rattle.tl_get.specs.Post.{Asked, Given, Posts, Replied}
-use Rattle.tl_get.proofs.Wanted.{posts_wanted}
+use Rattle.tl_http.specs.Post.{Asked, Given, Posts, Replied}
+use Rattle.tl_http.proofs.Wanted.{posts_wanted}
 use Rattle.tl_witness.specs.Request.{Body, body_text}
 use Rattle.tl_ask.specs.Answer.{AnswerDecides, Answered}
 use Rattle.tl_ask.specs.Asking.{Asks, most_answer}

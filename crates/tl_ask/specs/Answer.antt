@@ -4,8 +4,8 @@ use Rattle.tl_hash.specs.Bytes.{Bytes}
 use Rattle.tl_text.specs.Text.{line, number_text, IsSize}
 use Rattle.tl_note.specs.Note.{Signature}
 use Rattle.tl_note.specs.View.{AreLines}
-use Rattle.tl_get.specs.Post.{Replied}
-use Rattle.tl_get.specs.Response.{Unless, UnlessSome}
+use Rattle.tl_http.specs.Post.{Replied}
+use Rattle.tl_http.specs.Response.{Unless, UnlessSome}
 use Rattle.tl_ask.specs.declared.fault.AskFault.{AskFault}
 use Rattle.tl_ask.specs.declared.fault.AskFault.TheVariants.{BadLines, BadSize, OutOfMemory}
 use Rattle.tl_ask.specs.declared.question.WitnessAnswer.{WitnessAnswer}

@@ -2,7 +2,7 @@
 use Rattle.std.specs.Prelude.{◌≡◌, ◌⊎◌, ℕ, [], ◌∷◌, Err, codes}
 use Rattle.tl_device.specs.Device.{Passage, IsUnread, IsUnwritten}
 use Rattle.tl_hash.specs.Bytes.{Bytes}
-use Rattle.tl_get.specs.Post.{Asked, Posts, Replied}
+use Rattle.tl_http.specs.Post.{Asked, Posts, Replied}
 use Rattle.tl_witness.specs.Request.{Body, body_text}
 use Rattle.tl_ask.specs.Answer.{AnswerDecides, Answered}
 use Rattle.tl_ask.specs.declared.fault.AskFault.TheVariants.{OutOfMemory}

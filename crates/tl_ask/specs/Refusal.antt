@@ -1,7 +1,7 @@
 -- What a response that isn't taken says of a witness (C2SP tlog-witness, "add-checkpoint").
 use Rattle.std.specs.Prelude.{ℕ, ◌==◌, if◌then◌else◌}
-use Rattle.tl_get.specs.declared.fault.GetFault.{GetFault}
-use Rattle.tl_get.specs.declared.fault.GetFault.TheVariants as get
+use Rattle.tl_http.specs.declared.fault.HttpFault.{HttpFault}
+use Rattle.tl_http.specs.declared.fault.HttpFault.TheVariants as get
 use Rattle.tl_ask.specs.declared.fault.AskFault.{AskFault}
 use Rattle.tl_ask.specs.declared.fault.AskFault.TheVariants as ask
 
@@ -16,7 +16,7 @@ refusal_of_status status =
     else ask.Get (get.Status status)
 
 -- why a witness neither cosigned nor told a size, after the fault of a request
-abbrev pub refusal_of : GetFault → AskFault
+abbrev pub refusal_of : HttpFault → AskFault
 refusal_of (get.Status status) = refusal_of_status status
 refusal_of get.OutOfMemory = ask.OutOfMemory
 refusal_of fault = ask.Get fault

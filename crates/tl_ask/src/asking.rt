@@ -12,7 +12,7 @@ use crate::writing::question_bytes;
 use std::alloc::Allocator;
 use std::io::{Read, Write};
 use tl_device::Counted;
-use tl_get::{Post, post};
+use tl_http::{Post, post};
 
 // The most bytes of an answer's body.
 const MOST_ANSWER: usize = 16_384;

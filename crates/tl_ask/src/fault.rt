@@ -5,7 +5,7 @@ ghost use Rattle.tl_ask.specs.declared.fault.AskFault.TheVariants as faults;
 
 use std::alloc::AllocError;
 use thiserror::Error;
-use tl_get::GetFault;
+use tl_http::HttpFault;
 
 /// Why a witness neither cosigned nor told a size (C2SP tlog-witness, "add-checkpoint").
 #[derive(Clone, Copy, Debug, PartialEq, Eq, Error)]
@@ -24,7 +24,7 @@ pub enum AskFault {
     Unproved,
     /// There is no response that is taken, for another reason, such as a body of more than 16,384 bytes.
     #[error("{0}")]
-    Get(GetFault),
+    Get(HttpFault),
     /// The body with status 200 isn't lines of signatures, 1 to 100.
     #[error("the answer of the witness isn't lines of signatures")]
     BadLines,
@@ -45,18 +45,18 @@ impl From<AllocError> for AskFault {
     }
 }
 
-impl From<GetFault> for AskFault {
+impl From<HttpFault> for AskFault {
     ghost use Rattle.tl_ask.specs.Refusal.{refusal_of};
 
     ghost from_gives = { λ fault told. told ≡ refusal_of fault };
 
-    fn from(fault: GetFault) -> AskFault {
+    fn from(fault: HttpFault) -> AskFault {
         match fault {
-            GetFault::Status(400) => AskFault::Malformed,
-            GetFault::Status(403) => AskFault::Untrusted,
-            GetFault::Status(404) => AskFault::Unknown,
-            GetFault::Status(422) => AskFault::Unproved,
-            GetFault::OutOfMemory => AskFault::OutOfMemory,
+            HttpFault::Status(400) => AskFault::Malformed,
+            HttpFault::Status(403) => AskFault::Untrusted,
+            HttpFault::Status(404) => AskFault::Unknown,
+            HttpFault::Status(422) => AskFault::Unproved,
+            HttpFault::OutOfMemory => AskFault::OutOfMemory,
             _ => AskFault::Get(fault),
         }
     }

@@ -2,13 +2,13 @@
 
 ghost use Rattle.std.specs.Prelude.{◌≡◌, ◌⊎◌, ◌↔◌, ℕ, IsTrue, IfOk, MatchOption, OnErr, Ok, Some, codes};
 ghost use Rattle.tl_ask.specs.Answer.{AnswerDecides, AreSignatures, IsSizeLine, LinesDecide, SizeDecides, answered};
-ghost use Rattle.tl_get.specs.Post.{replied, value_bytes};
+ghost use Rattle.tl_http.specs.Post.{replied, value_bytes};
 
 use crate::fault::AskFault;
 use crate::question::WitnessAnswer;
 use std::alloc::{AllocError, Allocator};
 use std::str;
-use tl_get::Reply;
+use tl_http::Reply;
 use tl_note::{NoteFault, parse_signatures};
 use tl_text::{parse_size, split_line};
 

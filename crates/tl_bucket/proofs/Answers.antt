@@ -2,7 +2,7 @@
 use Rattle.std.proofs.Common.{◌≡◌, ℕ, Global, inl, inr, sym, subst, string_bytes, vec_items, Option, Some, String}
 use Rattle.std.specs.Prelude.{Ok, Err, Result, IfOk}
 use Rattle.tl_device.specs.Device.{Passage}
-use Rattle.tl_get.specs.Post.{value_bytes}
+use Rattle.tl_http.specs.Post.{value_bytes}
 use Rattle.tl_hash.specs.Bytes.{Bytes}
 use Rattle.tl_put.specs.Answers.{GetsObject, PutsObject, Told, get_told, put_told}
 use Rattle.tl_put.specs.Objects.{Content, Place}

@@ -3,7 +3,7 @@
 ghost use Rattle.std.specs.Prelude.{◌≡◌, IfOk, IfSome};
 ghost use Rattle.tl_bucket.specs.Answered.{WasReadWith};
 ghost use Rattle.tl_bucket.specs.Inner.Outcomes.{Concludes, Finds, Tells};
-ghost use Rattle.tl_get.specs.Post.{value_bytes};
+ghost use Rattle.tl_http.specs.Post.{value_bytes};
 ghost use Rattle.tl_put.specs.Objects.{content_of};
 
 use crate::client::{Client, Connection, now};

@@ -8,7 +8,7 @@ use std::alloc::{AllocError, AllocFailed};
 use std::error::Error;
 use std::fmt::{self, Display, Formatter};
 use tl_device::DeviceFault;
-use tl_get::GetFault;
+use tl_http::HttpFault;
 use tl_put::ObjectFault;
 
 /// Why a bucket failed.
@@ -32,19 +32,19 @@ impl BucketFault {
     /// Why a request failed, after its time or before.
     pub(crate) fn of_request(fault: ObjectFault, is_late: bool) -> BucketFault {
         BucketFault::Device(match fault {
-            ObjectFault::OutOfMemory | ObjectFault::Get(GetFault::OutOfMemory) =>
+            ObjectFault::OutOfMemory | ObjectFault::Get(HttpFault::OutOfMemory) =>
                 DeviceFault::OutOfMemory,
-            ObjectFault::BadField | ObjectFault::Get(GetFault::BadTarget) => DeviceFault::System,
-            ObjectFault::Get(GetFault::Read | GetFault::Write) if is_late => DeviceFault::TimedOut,
-            ObjectFault::Get(GetFault::Read | GetFault::Write) => DeviceFault::Broken,
-            ObjectFault::Get(GetFault::NoHead | GetFault::Version) => DeviceFault::NotHttp,
-            ObjectFault::Get(GetFault::Status(507)) => DeviceFault::Full,
-            ObjectFault::Get(GetFault::Status(status)) => DeviceFault::Status(status),
-            ObjectFault::Get(GetFault::Encoded) => DeviceFault::Encoded,
-            ObjectFault::Get(GetFault::BadLength) => DeviceFault::BadLength,
-            ObjectFault::Get(GetFault::BadChunk) => DeviceFault::BadChunk,
-            ObjectFault::Get(GetFault::TooLarge) => DeviceFault::TooLarge,
-            ObjectFault::Get(GetFault::Short) => DeviceFault::CutShort,
+            ObjectFault::BadField | ObjectFault::Get(HttpFault::BadTarget) => DeviceFault::System,
+            ObjectFault::Get(HttpFault::Read | HttpFault::Write) if is_late => DeviceFault::TimedOut,
+            ObjectFault::Get(HttpFault::Read | HttpFault::Write) => DeviceFault::Broken,
+            ObjectFault::Get(HttpFault::NoHead | HttpFault::Version) => DeviceFault::NotHttp,
+            ObjectFault::Get(HttpFault::Status(507)) => DeviceFault::Full,
+            ObjectFault::Get(HttpFault::Status(status)) => DeviceFault::Status(status),
+            ObjectFault::Get(HttpFault::Encoded) => DeviceFault::Encoded,
+            ObjectFault::Get(HttpFault::BadLength) => DeviceFault::BadLength,
+            ObjectFault::Get(HttpFault::BadChunk) => DeviceFault::BadChunk,
+            ObjectFault::Get(HttpFault::TooLarge) => DeviceFault::TooLarge,
+            ObjectFault::Get(HttpFault::Short) => DeviceFault::CutShort,
         })
     }
 

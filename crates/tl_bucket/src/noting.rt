@@ -7,7 +7,7 @@ ghost use Rattle.tl_bucket.specs.Inner.Puts.{IsThere, shown_of};
 ghost use Rattle.tl_bucket.specs.Opened.{KnowsShown};
 ghost use Rattle.tl_bucket.specs.Operators.{TellsSize};
 ghost use Rattle.tl_folder.specs.Places.{place_of};
-ghost use Rattle.tl_get.specs.Post.{value_bytes};
+ghost use Rattle.tl_http.specs.Post.{value_bytes};
 ghost use Rattle.tl_hash.specs.Bytes.{Bytes};
 ghost use Rattle.tl_tile.specs.Path.{IsResource};
 ghost use Rattle.tl_tile.specs.declared.resource.Resource.TheVariants as resource;

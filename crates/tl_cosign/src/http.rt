@@ -11,7 +11,7 @@ use std::time::{Clock, Duration, Instant};
 use tl_ask::{AskFault, Question, WitnessAnswer, ask_witness};
 use tl_client::ResourceSource;
 use tl_device::{Counted, DeviceFault, Timed};
-use tl_get::GetFault;
+use tl_http::HttpFault;
 use tl_source::{Url, connect};
 
 // Where a witness is asked under its address (C2SP tlog-witness, "add-checkpoint").
@@ -73,7 +73,7 @@ impl<H: Net<Stream = TcpStream> + Clock> HttpWitness<'_, H> {
             Err(_) => false,
         };
         match fault {
-            AskFault::Get(GetFault::Read | GetFault::Write) if is_late => {
+            AskFault::Get(HttpFault::Read | HttpFault::Write) if is_late => {
                 Unasked::Device(DeviceFault::TimedOut)
             }
             _ => Unasked::Ask(fault),

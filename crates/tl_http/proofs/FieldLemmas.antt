@@ -5,7 +5,7 @@ use Rattle.std.specs.Prelude.{filter}
 use Rattle.std.specs.Str.{str_eq_ignore_ascii_case}
 use Rattle.std.proofs.lemmas.List.{take_all}
 use Rattle.httparse.specs.declared.spans.HeaderSpan.{HeaderSpan}
-use Rattle.tl_http.specs.Fields.{values_of}
+use Rattle.tl_http.specs.FieldValues.{values_of}
 
 -- a span that covers nothing
 abbrev pub no_span : HeaderSpan

@@ -1,22 +1,54 @@
--- The fields of a head (RFC 9110, sections 5.1 and 8.6).
-use Rattle.std.specs.Prelude.{◌≡◌, ℕ, ◌<◌, List, length, map, filter}
-use Rattle.std.specs.Char.{is_ascii_digit}
-use Rattle.std.specs.Str.{str_eq_ignore_ascii_case}
-use Rattle.std.specs.Str.Parse.{digits_value}
-use Rattle.httparse.specs.Grammar.{Field, AllPass}
-use Rattle.httparse.specs.Spans.{name_and_value}
+-- The fields of a response's head, and how they frame its body (RFC 9110, sections 5.1, 8.4 and 8.6; RFC 9112,
+-- section 6).
+use Rattle.std.specs.Prelude.{◌≡◌, ◌≢◌, ◌⊎◌, ℕ, ◌<◌, ◌^◌, List, [], ◌∷◌, Option, Some, None, codes, map}
+use Rattle.std.specs.Char.{to_ascii_lowercase}
+use Rattle.std.specs.List.{AllByRecursion}
 use Rattle.tl_hash.specs.Bytes.{Bytes}
+use Rattle.tl_http.specs.FieldValues.{values_of, IsNumber}
+use Rattle.tl_http.specs.declared.framing.Framing.{Framing}
+use Rattle.tl_http.specs.declared.framing.Framing.TheVariants.{Sized, UntilEnd, Chunked}
 
--- names and values of fields, without the white space around a value
-abbrev pub fields_of : List Field → List (Bytes × Bytes)
-fields_of fields = map name_and_value fields
+-- the texts are the same, but for the case of letters
+abbrev pub IsSameWord : Bytes → Bytes → Type 0
+IsSameWord text word = map to_ascii_lowercase text ≡ map to_ascii_lowercase word
 
--- the values of the fields with this name, whose case doesn't matter
-abbrev pub values_of : Bytes → List (Bytes × Bytes) → List Bytes
-values_of name fields = map (λ f. f.1) (filter (λ f. str_eq_ignore_ascii_case f.0 name) fields)
+-- these values of Content-Encoding say nothing, or once that there is no coding (RFC 9110, section 8.4.1)
+abbrev pub IsIdentity : List Bytes → Type 0
+IsIdentity values = (values ≡ []) ⊎ ((value : Bytes) × (values ≡ value ∷ []) × IsSameWord value (codes "identity"))
 
--- the text is digits, at least one, and they write n
-pub record IsNumber (text : Bytes) (n : ℕ) : Type 0 where
-  pub some : 0 < length text
-  pub digits : AllPass is_ascii_digit text
-  pub value : digits_value 10 text ≡ n
+-- these values of Transfer-Encoding say, in one field, that the body comes in chunks and in no other coding (RFC 9112,
+-- section 6.1)
+abbrev pub IsChunked : List Bytes → Type 0
+IsChunked values = (value : Bytes) × (values ≡ value ∷ []) × IsSameWord value (codes "chunked")
+
+-- the body is sent as it is or, over HTTP/1.1, in chunks
+abbrev pub IsSent : ℕ → List (Bytes × Bytes) → Type 0
+IsSent minor fields =
+    (values_of (codes "Transfer-Encoding") fields ≡ [])
+    ⊎ ((minor ≡ 1) × IsChunked (values_of (codes "Transfer-Encoding") fields))
+
+-- no field says that the body is sent or kept in another form
+pub record IsPlain (minor : ℕ) (fields : List (Bytes × Bytes)) : Type 0 where
+  pub sent : IsSent minor fields
+  pub kept : IsIdentity (values_of (codes "Content-Encoding") fields)
+
+-- the text is digits, at least one, and they write n, which is below 2^63
+pub record IsLength (n : ℕ) (text : Bytes) : Type 0 where
+  pub written : IsNumber text n
+  pub below : n < 2 ^ 63
+
+-- these values of Content-Length announce a body of so many bytes, each of them the same; none announces no length
+abbrev pub AnnouncesLength : List Bytes → Option ℕ → Type 0
+AnnouncesLength values None = values ≡ []
+AnnouncesLength values (Some n) = (values ≢ []) × AllByRecursion (IsLength n) values
+
+-- the same of fields
+abbrev pub HasLength : List (Bytes × Bytes) → Option ℕ → Type 0
+HasLength fields n = AnnouncesLength (values_of (codes "Content-Length") fields) n
+
+-- how the fields say where the body ends: after so many bytes, with the input, or with its last chunk. Chunks beside a
+-- length are nothing clear (RFC 9112, section 6.3)
+abbrev pub HasFraming : List (Bytes × Bytes) → Framing → Type 0
+HasFraming fields (Sized n) = (values_of (codes "Transfer-Encoding") fields ≡ []) × HasLength fields (Some n)
+HasFraming fields UntilEnd = (values_of (codes "Transfer-Encoding") fields ≡ []) × HasLength fields None
+HasFraming fields Chunked = IsChunked (values_of (codes "Transfer-Encoding") fields) × HasLength fields None

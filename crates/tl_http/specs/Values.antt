@@ -1,8 +1,8 @@
 -- How many fields of a head have one name.
 use Rattle.std.specs.Prelude.{◌≡◌, ◌<◌, List, [], ◌∷◌, length}
 use Rattle.tl_hash.specs.Bytes.{Bytes}
-use Rattle.tl_http.specs.declared.fields.Values.{Values}
-use Rattle.tl_http.specs.declared.fields.Values.TheVariants as values
+use Rattle.tl_http.specs.declared.field_values.Values.{Values}
+use Rattle.tl_http.specs.declared.field_values.Values.TheVariants as values
 
 -- the values are none, this one, or several
 abbrev pub AreValues : List Bytes → Values → Type 0

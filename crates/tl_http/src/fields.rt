@@ -1,58 +1,123 @@
-//! Fields of a head, by their names.
+//! The fields of a response's head.
 
-ghost use Rattle.std.specs.Prelude.{◌≡◌, ◌<◌, ◌-◌, ◌^◌, ℕ, MatchOption, All, length, map, min};
+ghost use Rattle.std.specs.Prelude.{◌≡◌, ℕ, List, [], ◌∷◌, ◌↔◌, IsTrue, MatchOption, All, codes, length, map};
 ghost use Rattle.httparse.specs.Spans.{IsHeaderWithin, header_bytes};
-ghost use Rattle.tl_http.specs.Fields.{values_of, IsNumber};
-ghost use Rattle.tl_http.specs.Values.{AreValues};
+ghost use Rattle.tl_hash.specs.Bytes.{Bytes};
+ghost use Rattle.tl_http.specs.FieldValues.{values_of};
+ghost use Rattle.tl_http.specs.Fields.{IsChunked, IsIdentity, IsLength};
+ghost use Rattle.tl_http.specs.Inner.Framings.{SaysLength};
+ghost use Rattle.tl_http.specs.Inner.Values.{CopiesValue};
+ghost use Rattle.tl_http.specs.Post.{only_one};
 
+use crate::fault::HttpFault;
+use crate::growth::append;
 use httparse::spans::HeaderSpan;
+use std::alloc::{AllocError, Allocator};
+use crate::field_values::{Values, number_in, values_in};
 
-/// The values of the fields with one name.
-#[derive(Clone, Copy)]
-pub enum Values<'b> {
-    /// There is none.
-    None,
-    /// There is this one.
-    One(&'b [u8]),
-    /// There are several.
-    More,
+// The end of what a length may be.
+const END_OF_LENGTHS: u64 = 1 << 63;
+
+/// Whether no field has this name, whose case doesn't matter.
+pub(crate) fn lacks_field(buf: &[u8], headers: &[HeaderSpan], name: &[u8]) -> bool
+    requires { All (IsHeaderWithin (length buf.now)) headers.now }
+    ensures { IsTrue result ↔ (values_of name.now (map (header_bytes buf.now) headers.now) ≡ []) }
+{
+    matches!(values_in(buf, headers, name), Values::None)
 }
 
-/// The values of the fields with this name, whose case doesn't matter (RFC 9110, section 5.1). The headers are spans of
-/// the bytes.
-pub fn values_in<'b>(buf: &'b [u8], headers: &[HeaderSpan], name: &[u8]) -> Values<'b>
+/// A copy of the value of the one field with this name, or `None` where there is no such field or more than one. It
+/// fails only where a growth for some bytes was refused.
+pub(crate) fn copy_value<A: Allocator + Copy>(
+    alloc: A,
+    buf: &[u8],
+    headers: &[HeaderSpan],
+    name: &[u8],
+) -> Result<Option<Vec<u8, A>>, AllocError>
     requires { All (IsHeaderWithin (length buf.now)) headers.now }
-    ensures { AreValues (values_of name.now (map (header_bytes buf.now) headers.now)) result }
+    ensures { CopiesValue
+        (only_one (values_of name.now (map (header_bytes buf.now) headers.now))) result }
+{
+    let Values::One(value) = values_in(buf, headers, name) else {
+        return Ok(None);
+    };
+    let mut copy = Vec::new(alloc);
+    append(alloc, &mut copy, value, value.len())?;
+    Ok(Some(copy))
+}
+
+/// Whether no field Content-Encoding is there, or one that says that there is no coding.
+pub(crate) fn has_no_coding(buf: &[u8], headers: &[HeaderSpan]) -> bool
+    requires { All (IsHeaderWithin (length buf.now)) headers.now }
+    ensures { IsTrue result ↔ IsIdentity
+        (values_of (codes "Content-Encoding") (map (header_bytes buf.now) headers.now)) }
+{
+    match values_in(buf, headers, b"Content-Encoding") {
+        Values::None => true,
+        Values::One(value) => value.eq_ignore_ascii_case(b"identity"),
+        Values::More => false,
+    }
+}
+
+/// Whether one field Transfer-Encoding is there, which says that the body comes in chunks.
+pub(crate) fn is_chunked(buf: &[u8], headers: &[HeaderSpan]) -> bool
+    requires { All (IsHeaderWithin (length buf.now)) headers.now }
+    ensures { IsTrue result ↔ IsChunked
+        (values_of (codes "Transfer-Encoding") (map (header_bytes buf.now) headers.now)) }
+{
+    match values_in(buf, headers, b"Transfer-Encoding") {
+        Values::None => false,
+        Values::One(value) => value.eq_ignore_ascii_case(b"chunked"),
+        Values::More => false,
+    }
+}
+
+// The number below 2^63 that digits write. None where the text is no digits, or the number is larger.
+fn length_of(text: &[u8]) -> Option<u64>
+    ensures { MatchOption result ((n : ℕ) → ¬ (IsLength n text.now)) (λ n. IsLength n text.now) }
+{
+    match number_in(text) {
+        Some(n) if n < END_OF_LENGTHS => Some(n),
+        _ => None,
+    }
+}
+
+// What one value more of Content-Length announces, in front of what the others announce.
+fn with_value(text: &[u8], below: Result<Option<u64>, HttpFault>) -> Result<Option<u64>, HttpFault>
+    ensures { (values : List Bytes)
+        → SaysLength values below → SaysLength (text.now ∷ values) result }
+{
+    let Some(n) = length_of(text) else {
+        return Err(HttpFault::BadLength);
+    };
+    let others = match below {
+        Err(fault) => return Err(fault),
+        Ok(others) => others,
+    };
+    match others {
+        None => Ok(Some(n)),
+        Some(m) => {
+            if m == n {
+                Ok(Some(n))
+            } else {
+                Err(HttpFault::BadLength)
+            }
+        }
+    }
+}
+
+/// The length of the body that the fields announce, or none where no field does. `BadLength` where they aren't clear.
+pub(crate) fn length_in(buf: &[u8], headers: &[HeaderSpan]) -> Result<Option<u64>, HttpFault>
+    requires { All (IsHeaderWithin (length buf.now)) headers.now }
+    ensures { SaysLength
+        (values_of (codes "Content-Length") (map (header_bytes buf.now) headers.now)) result }
 {
     let [first, rest @ ..] = headers else {
-        return Values::None;
+        return Ok(None);
     };
-    let below = values_in(buf, rest, name);
-    if !first.name.of(buf).eq_ignore_ascii_case(name) {
+    let below = length_in(buf, rest);
+    if !first.name.of(buf).eq_ignore_ascii_case(b"Content-Length") {
         return below;
     }
-    match below {
-        Values::None => Values::One(first.value.of(buf)),
-        Values::One(_) => Values::More,
-        Values::More => Values::More,
-    }
-}
-
-/// The number that digits write, or 2^64 - 1 where it is above that. `None` where the text is no digits, or empty (RFC
-/// 9110, section 8.6).
-pub fn number_in(text: &[u8]) -> Option<u64>
-    ensures { MatchOption result ((n : ℕ) → ¬ (IsNumber text.now n))
-        (λ m. (n : ℕ) × IsNumber text.now n × (m ≡ min n (2 ^ 64 - 1))) }
-{
-    if text.is_empty() {
-        return None;
-    }
-    let mut n: u64 = 0;
-    for byte in text {
-        if !byte.is_ascii_digit() {
-            return None;
-        }
-        n = n.saturating_mul(10).saturating_add((*byte - b'0') as u64);
-    }
-    Some(n)
+    with_value(first.value.of(buf), below)
 }

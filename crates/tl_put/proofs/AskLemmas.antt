@@ -1,9 +1,9 @@
 -- From the steps of a signed request to the whole.
 use Rattle.std.proofs.Common.{◌≡◌, ◌∙◌, ◌++◌, List, [], ◌∷◌, Result, Ok, Err, ap, codes, inl, inr, refl, subst}
 use Rattle.tl_device.specs.Device.{Passage}
-use Rattle.tl_get.specs.Exchange.{Exchanges, Sought}
-use Rattle.tl_get.specs.Message.{Sent}
-use Rattle.tl_get.specs.Post.{Given, Replied}
+use Rattle.tl_http.specs.Exchange.{Exchanges, Sought}
+use Rattle.tl_http.specs.Message.{Sent}
+use Rattle.tl_http.specs.Post.{Given, Replied}
 use Rattle.tl_hash.specs.Bytes.{Bytes}
 use Rattle.tl_put.specs.Objects.{get_fields, put_fields}
 use Rattle.tl_put.specs.Requests.{Asks, told_by}

@@ -1,8 +1,8 @@
 -- What a server answers (Amazon S3 API Reference, PutObject, GetObject and "Error responses"; RFC 9110, section 15).
 use Rattle.std.specs.Prelude.{ℕ, ◌==◌, ◌||◌, List, [], ◌∷◌, Option, Result, Ok, Err, codes, vec_items, if◌then◌else◌}
 use Rattle.tl_device.specs.Device.{Passage}
-use Rattle.tl_get.specs.Exchange.{Sought}
-use Rattle.tl_get.specs.Post.{Given, value_bytes}
+use Rattle.tl_http.specs.Exchange.{Sought}
+use Rattle.tl_http.specs.Post.{Given, value_bytes}
 use Rattle.tl_hash.specs.Bytes.{Bytes}
 use Rattle.tl_put.specs.Objects.{Content, Place, get_request, put_request}
 use Rattle.tl_put.specs.Requests.{Asks}

@@ -1,9 +1,9 @@
 -- A signed request over a reader and a writer.
 use Rattle.std.specs.Prelude.{◌≡◌, ◌⊎◌, Result, Ok, Err}
 use Rattle.tl_device.specs.Device.{Passage, IsUnread, IsUnwritten}
-use Rattle.tl_get.specs.Exchange.{Exchanges, Sought}
-use Rattle.tl_get.specs.Post.{Given, Replied}
-use Rattle.tl_get.specs.Response.{Unless}
+use Rattle.tl_http.specs.Exchange.{Exchanges, Sought}
+use Rattle.tl_http.specs.Post.{Given, Replied}
+use Rattle.tl_http.specs.Response.{Unless}
 use Rattle.tl_hash.specs.Bytes.{Bytes}
 use Rattle.tl_put.specs.Signed.{signed_sent}
 use Rattle.tl_put.specs.declared.fault.ObjectFault.{ObjectFault}

@@ -5,7 +5,7 @@ ghost use Rattle.tl_put.specs.declared.fault.ObjectFault.TheVariants as faults;
 
 use std::alloc::{AllocError, AllocFailed};
 use thiserror::Error;
-use tl_get::GetFault;
+use tl_http::HttpFault;
 
 /// Why there is no answer of a server to a put or a get, in the order in which the refusals are checked.
 #[derive(Clone, Copy, Debug, PartialEq, Eq, Error)]
@@ -18,7 +18,7 @@ pub enum ObjectFault {
     BadField,
     /// There is no response that is taken. But for `BadTarget` this doesn't tell whether an object was put.
     #[error("{0}")]
-    Get(GetFault),
+    Get(HttpFault),
 }
 
 impl From<AllocError> for ObjectFault {
@@ -37,10 +37,10 @@ impl<X: Drop> From<AllocFailed<X>> for ObjectFault {
     }
 }
 
-impl From<GetFault> for ObjectFault {
+impl From<HttpFault> for ObjectFault {
     ghost from_gives = { λ fault told. told ≡ faults.Get fault };
 
-    fn from(fault: GetFault) -> ObjectFault {
+    fn from(fault: HttpFault) -> ObjectFault {
         ObjectFault::Get(fault)
     }
 }

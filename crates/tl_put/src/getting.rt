@@ -2,7 +2,7 @@
 
 ghost use Rattle.std.specs.Prelude.{◌≡◌, IfErr, IfOk, map};
 ghost use Rattle.tl_device.specs.Device.{passage};
-ghost use Rattle.tl_get.specs.Exchange.{LeavesOpen};
+ghost use Rattle.tl_http.specs.Exchange.{LeavesOpen};
 ghost use Rattle.tl_put.specs.Answers as spec;
 ghost use Rattle.tl_put.specs.Answers.{GetsObject, get_told};
 ghost use Rattle.tl_put.specs.Objects.{get_fields, place_of};

@@ -2,7 +2,7 @@
 
 ghost use Rattle.std.specs.Prelude.{◌≡◌, IfErr, IfOk, map};
 ghost use Rattle.tl_device.specs.Device.{passage};
-ghost use Rattle.tl_get.specs.Exchange.{LeavesOpen};
+ghost use Rattle.tl_http.specs.Exchange.{LeavesOpen};
 ghost use Rattle.tl_put.specs.Answers as spec;
 ghost use Rattle.tl_put.specs.Answers.{PutsObject, put_told};
 ghost use Rattle.tl_put.specs.Objects.{content_of, place_of, put_fields};
@@ -15,7 +15,7 @@ use crate::sending::{field, send_signed, target_of};
 use std::alloc::Allocator;
 use std::io::{Read, Write};
 use tl_device::Counted;
-use tl_get::Response;
+use tl_http::Response;
 use tl_sigv4::{Field, Moment, Request, payload_digest};
 
 // The most bytes of an answer's body.

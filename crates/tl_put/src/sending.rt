@@ -2,8 +2,8 @@
 
 ghost use Rattle.std.specs.Prelude.{◌≡◌, ◌++◌, [], ◌∷◌, IfErr, IfOk, codes, map, string_bytes};
 ghost use Rattle.tl_device.specs.Device.{passage};
-ghost use Rattle.tl_get.specs.Exchange.{LeavesOpen};
-ghost use Rattle.tl_get.specs.Message.{field_of};
+ghost use Rattle.tl_http.specs.Exchange.{LeavesOpen};
+ghost use Rattle.tl_http.specs.Message.{field_of};
 ghost use Rattle.tl_put.specs.Answers.{answers_sought};
 ghost use Rattle.tl_put.specs.Requests.{Asks};
 ghost use Rattle.tl_put.specs.Inner.Sendings.{response_told};
@@ -15,7 +15,7 @@ use crate::fault::ObjectFault;
 use std::alloc::{AllocError, Allocator};
 use std::io::{Read, Write};
 use tl_device::Counted;
-use tl_get::{FieldLine, Message, Response, exchange};
+use tl_http::{FieldLine, Message, Response, exchange};
 use tl_sigv4::{Credential, Field, Moment, Request, authorization, is_canonical};
 
 // The statuses of answers that are taken.

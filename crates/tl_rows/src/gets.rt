@@ -5,7 +5,7 @@ use crate::words::{Told, Words, bytes_of, put};
 use std::alloc::Global;
 use std::str;
 use tl_device::Counted;
-use tl_get::get;
+use tl_http::get;
 
 // More bytes than any request has, so that no write fails for want of memory.
 const ROOM: usize = 4_096;

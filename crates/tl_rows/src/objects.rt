@@ -6,7 +6,7 @@ use crate::words::{Told, Words, bytes_of};
 use std::alloc::{AllocError, Global};
 use std::str;
 use tl_device::Counted;
-use tl_get::GetFault;
+use tl_http::HttpFault;
 use tl_put::{Bucket, Condition, GetReply, Object, ObjectFault, PutReply, get_object, put_object};
 use tl_sigv4::Moment;
 
@@ -45,7 +45,7 @@ fn put_put(outcome: &Result<PutReply<Global>, ObjectFault>, out: &mut String) ->
             write!(out, "{:?}", reply.answer)?;
             put_rest(&reply.etag, reply.stays_open, reply.body.as_slice(), out)
         }
-        Err(ObjectFault::OutOfMemory | ObjectFault::Get(GetFault::OutOfMemory)) => {
+        Err(ObjectFault::OutOfMemory | ObjectFault::Get(HttpFault::OutOfMemory)) => {
             Err(AllocError)
         }
         Err(fault) => write!(out, "{fault}"),
@@ -59,7 +59,7 @@ fn put_got(outcome: &Result<GetReply<Global>, ObjectFault>, out: &mut String) ->
             write!(out, "{:?}", reply.answer)?;
             put_rest(&reply.etag, reply.stays_open, reply.body.as_slice(), out)
         }
-        Err(ObjectFault::OutOfMemory | ObjectFault::Get(GetFault::OutOfMemory)) => {
+        Err(ObjectFault::OutOfMemory | ObjectFault::Get(HttpFault::OutOfMemory)) => {
             Err(AllocError)
         }
         Err(fault) => write!(out, "{fault}"),

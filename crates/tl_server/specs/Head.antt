@@ -2,7 +2,7 @@
 use Rattle.std.specs.Prelude.{◌≡◌, ℕ, ◌≤◌, List, [], ◌∷◌, ◌++◌, length, codes}
 use Rattle.httparse.specs.Grammar.{RequestHead, ReadsRequest, print_request}
 use Rattle.tl_hash.specs.Bytes.{Bytes}
-use Rattle.tl_http.specs.Fields.{values_of, IsNumber}
+use Rattle.tl_http.specs.FieldValues.{values_of, IsNumber}
 
 -- the input begins with this head, of at most 8,192 bytes and 64 fields, and goes on with rest
 pub record HasHead (input : Bytes) (head : RequestHead) (rest : Bytes) : Type 0 where

@@ -6,7 +6,7 @@ use Rattle.tl_witness.specs.Saver.{Saved}
 use Rattle.tl_witness.specs.Shared.{AnswersShared}
 use Rattle.tl_witness.specs.Witnessed.{Witnessed}
 use Rattle.tl_server.specs.Answer.{Answer, bare, not_allowed, plain_text, log_size}
-use Rattle.tl_http.specs.Fields.{fields_of}
+use Rattle.tl_http.specs.FieldValues.{fields_of}
 use Rattle.tl_server.specs.Head.{IsSized, HasBody}
 use Rattle.tl_server.specs.Exchange.{Begun}
 

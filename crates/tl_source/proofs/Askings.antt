@@ -1,8 +1,8 @@
 -- Requests for resources.
 use Rattle.std.proofs.Common.{◌≡◌, ℕ, List, subst}
 use Rattle.tl_device.specs.Device.{Passage}
-use Rattle.tl_get.specs.Get.{Gets}
-use Rattle.tl_get.specs.Response.{Outcome}
+use Rattle.tl_http.specs.Get.{Gets}
+use Rattle.tl_http.specs.Response.{Outcome}
 use Rattle.tl_tile.specs.declared.resource.Resource.{Resource}
 use Rattle.tl_folder.specs.Limits.{most_bytes}
 use Rattle.tl_folder.specs.Places.{place_of}

@@ -2,8 +2,8 @@
 use Rattle.std.specs.Prelude.{◌≡◌, ◌⊎◌, ◌++◌, ◌≤◌, length, Ok, codes}
 use Rattle.tl_hash.specs.Bytes.{Bytes}
 use Rattle.tl_device.specs.Device.{Passage}
-use Rattle.tl_get.specs.Get.{Gets}
-use Rattle.tl_get.specs.Response.{Outcome}
+use Rattle.tl_http.specs.Get.{Gets}
+use Rattle.tl_http.specs.Response.{Outcome}
 use Rattle.tl_tile.specs.declared.resource.Resource.{Resource}
 use Rattle.tl_folder.specs.Limits.{most_bytes}
 use Rattle.tl_folder.specs.Places.{place_of}

@@ -2,11 +2,11 @@
 use Rattle.std.specs.Prelude.{Bool, true, false}
 use Rattle.tl_device.specs.declared.fault.DeviceFault.{DeviceFault}
 use Rattle.tl_device.specs.declared.fault.DeviceFault.TheVariants as device
-use Rattle.tl_get.specs.declared.fault.GetFault.{GetFault}
-use Rattle.tl_get.specs.declared.fault.GetFault.TheVariants as get
+use Rattle.tl_http.specs.declared.fault.HttpFault.{HttpFault}
+use Rattle.tl_http.specs.declared.fault.HttpFault.TheVariants as get
 
 -- why a host gave no body, after the fault of a request, and by whether the time was over
-abbrev pub after_get : Bool → GetFault → DeviceFault
+abbrev pub after_get : Bool → HttpFault → DeviceFault
 after_get true get.Read = device.TimedOut
 after_get false get.Read = device.Broken
 after_get true get.Write = device.TimedOut

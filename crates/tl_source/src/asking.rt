@@ -12,7 +12,7 @@ use std::alloc::Global;
 use std::io::{Read, Write};
 use tl_device::Counted;
 use tl_folder::{most_bytes, path_under};
-use tl_get::{GetFault, get};
+use tl_http::{HttpFault, get};
 use tl_tile::Resource;
 
 /// Asks the host of an address for a resource by one GET request, and gives the body of the response with status 200,
@@ -23,13 +23,13 @@ pub(crate) fn ask<I: Read, O: Write>(
     writer: &mut Counted<O>,
     url: &Url<'_>,
     resource: &Resource,
-) -> Result<Vec<u8>, GetFault>
+) -> Result<Vec<u8>, HttpFault>
     requires { IsResource resource.now }
     ensures body { IfOk result (λ body. Asks url.now.authority.now url.now.prefix.now resource.now
         (passage I.remaining reader.old reader.new)
         (passage O.contents writer.old writer.new) (Ok body.items)) }
     ensures short { IfOk result (λ body. length body.items ≤ most_bytes resource.now) }
-    ensures refused { IfErr result (λ why. why ≢ GetFault.OutOfMemory
+    ensures refused { IfErr result (λ why. why ≢ HttpFault.OutOfMemory
         → Asks url.now.authority.now url.now.prefix.now resource.now (passage I.remaining
         reader.old reader.new) (passage O.contents writer.old writer.new) (Err why)) }
 {

@@ -11,7 +11,7 @@ use std::alloc::Global;
 use std::net::{Net, TcpStream, ToSocketAddrs};
 use std::time::{Clock, Duration, Instant};
 use tl_device::{Counted, DeviceFault, Timed};
-use tl_get::GetFault;
+use tl_http::HttpFault;
 use tl_tile::Resource;
 
 /// The host of a log over HTTP/1.1, and how much time it has.
@@ -46,21 +46,21 @@ pub fn connect<H: Net<Stream = TcpStream> + Clock>(
 }
 
 // Why a host gave no body, where a request failed with this, after its time or before.
-fn why_none(fault: GetFault, is_late: bool) -> DeviceFault
+fn why_none(fault: HttpFault, is_late: bool) -> DeviceFault
     ensures { result ≡ after_get is_late fault }
 {
     match fault {
-        GetFault::Read | GetFault::Write if is_late => DeviceFault::TimedOut,
-        GetFault::Read | GetFault::Write => DeviceFault::Broken,
-        GetFault::NoHead | GetFault::Version => DeviceFault::NotHttp,
-        GetFault::Status(status) => DeviceFault::Status(status),
-        GetFault::Encoded => DeviceFault::Encoded,
-        GetFault::BadLength => DeviceFault::BadLength,
-        GetFault::BadChunk => DeviceFault::BadChunk,
-        GetFault::TooLarge => DeviceFault::TooLarge,
-        GetFault::Short => DeviceFault::CutShort,
-        GetFault::OutOfMemory => DeviceFault::OutOfMemory,
-        GetFault::BadTarget => DeviceFault::System,
+        HttpFault::Read | HttpFault::Write if is_late => DeviceFault::TimedOut,
+        HttpFault::Read | HttpFault::Write => DeviceFault::Broken,
+        HttpFault::NoHead | HttpFault::Version => DeviceFault::NotHttp,
+        HttpFault::Status(status) => DeviceFault::Status(status),
+        HttpFault::Encoded => DeviceFault::Encoded,
+        HttpFault::BadLength => DeviceFault::BadLength,
+        HttpFault::BadChunk => DeviceFault::BadChunk,
+        HttpFault::TooLarge => DeviceFault::TooLarge,
+        HttpFault::Short => DeviceFault::CutShort,
+        HttpFault::OutOfMemory => DeviceFault::OutOfMemory,
+        HttpFault::BadTarget => DeviceFault::System,
     }
 }
 

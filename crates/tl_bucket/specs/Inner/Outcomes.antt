@@ -1,6 +1,6 @@
 -- What came of requests.
 use Rattle.std.specs.Prelude.{◌≡◌, Option, Some, None, vec_items}
-use Rattle.tl_get.specs.Post.{value_bytes}
+use Rattle.tl_http.specs.Post.{value_bytes}
 use Rattle.tl_hash.specs.Bytes.{Bytes}
 use Rattle.tl_put.specs.Objects.{Content, Place}
 use Rattle.tl_put.specs.declared.object.Condition.{Condition}

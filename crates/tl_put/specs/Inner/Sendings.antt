@@ -1,7 +1,7 @@
 -- The steps of sending a signed request.
 use Rattle.std.specs.Prelude.{Result, Ok, Err, vec_items}
-use Rattle.tl_get.specs.Post.{Given, value_bytes}
-use Rattle.tl_get.specs.declared.message.Response.{Response}
+use Rattle.tl_http.specs.Post.{Given, value_bytes}
+use Rattle.tl_http.specs.declared.message.Response.{Response}
 use Rattle.tl_put.specs.declared.fault.ObjectFault.{ObjectFault}
 
 -- a response, without where its bytes lie in memory

@@ -1,6 +1,6 @@
 use Rattle.std.proofs.Common.{◌≡◌, Option, [], rules, subst, sym}
 use Rattle.tl_folder.specs.Places.{place_of}
-use Rattle.tl_get.specs.Post.{value_bytes}
+use Rattle.tl_http.specs.Post.{value_bytes}
 use Rattle.tl_hash.specs.Bytes.{Bytes}
 use Rattle.tl_bucket.specs.Answered.{WasRead}
 use Rattle.tl_bucket.specs.Inner.Outcomes.{Finds}

@@ -1,6 +1,6 @@
 use Rattle.std.proofs.Common.{◌≡◌, Option, [], rules, subst}
 use Rattle.tl_folder.specs.Places.{place_of}
-use Rattle.tl_get.specs.Post.{value_bytes}
+use Rattle.tl_http.specs.Post.{value_bytes}
 use Rattle.tl_tile.specs.declared.resource.Resource.TheVariants as resource
 use Rattle.tl_bucket.specs.Inner.Outcomes.{Finds}
 use Rattle.tl_bucket.specs.declared.asking.Found.{Found}

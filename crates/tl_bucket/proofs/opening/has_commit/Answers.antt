@@ -1,5 +1,5 @@
 use Rattle.std.proofs.Common.{Option, subst}
-use Rattle.tl_get.specs.Post.{value_bytes}
+use Rattle.tl_http.specs.Post.{value_bytes}
 use Rattle.tl_bucket.specs.Inner.Outcomes.{Finds}
 use Rattle.tl_bucket.specs.Shelved.{commit_path}
 use Rattle.tl_bucket.specs.declared.asking.Found.{Found}

@@ -3,7 +3,7 @@ use Rattle.tl_bucket.specs.Commits.{Commit, IsCommit}
 use Rattle.tl_bucket.specs.Inner.Outcomes.{Finds}
 use Rattle.tl_bucket.specs.Shelved.{commit_path}
 use Rattle.tl_bucket.specs.declared.asking.Found.{Found}
-use Rattle.tl_get.specs.Post.{value_bytes}
+use Rattle.tl_http.specs.Post.{value_bytes}
 use Rattle.tl_bucket.proofs.Answers.{read}
 use Rattle.tl_bucket.proofs.opening.read_numbered.Goals as goal
 

@@ -1,6 +1,6 @@
 use Rattle.std.proofs.Common.{◌∙◌, ◌++◌, [], Err, List, Ok, ap, codes, map}
 use Rattle.std.proofs.lemmas.Result.{err_from_is_err_and}
-use Rattle.tl_get.specs.Post.{value_bytes}
+use Rattle.tl_http.specs.Post.{value_bytes}
 use Rattle.tl_put.specs.Answers.{Told, answers_sought, get_answer, tell}
 use Rattle.tl_put.specs.Objects.{get_fields, get_request, payload, place_of}
 use Rattle.tl_put.specs.declared.object.GetAnswer.{GetAnswer}

@@ -1,6 +1,6 @@
 use Rattle.std.proofs.Common.{◌∙◌, ◌++◌, [], Err, List, Ok, ap, codes, map}
 use Rattle.std.proofs.lemmas.Result.{err_from_is_err_and}
-use Rattle.tl_get.specs.Post.{value_bytes}
+use Rattle.tl_http.specs.Post.{value_bytes}
 use Rattle.tl_put.specs.Answers.{Told, answers_sought, put_answer, tell}
 use Rattle.tl_put.specs.Objects.{content_of, payload, place_of, put_fields, put_request}
 use Rattle.tl_put.specs.declared.object.PutAnswer.{PutAnswer}

@@ -1,5 +1,5 @@
 use Rattle.std.proofs.Common.{◌≡◌, map, take}
-use Rattle.tl_get.specs.Message.{field_of}
+use Rattle.tl_http.specs.Message.{field_of}
 use Rattle.tl_put.proofs.sending.lines_of.Given as goal
 use Rattle.tl_sigv4.specs.Requests as signed
 

@@ -1,7 +1,7 @@
 use Rattle.std.proofs.Common.{◌∙◌, List, ap, map}
 use Rattle.std.proofs.lemmas.Result.{err_from_is_err_and}
-use Rattle.tl_get.specs.Message.{field_of}
-use Rattle.tl_get.specs.declared.message.FieldLine.{FieldLine}
+use Rattle.tl_http.specs.Message.{field_of}
+use Rattle.tl_http.specs.declared.message.FieldLine.{FieldLine}
 use Rattle.tl_put.specs.Answers.{answers_sought}
 use Rattle.tl_put.proofs.AskLemmas.{asks_signed}
 use Rattle.tl_put.proofs.sending.send_signed.Goals as goal

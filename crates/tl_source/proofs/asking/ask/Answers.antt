@@ -1,7 +1,7 @@
 use Rattle.std.proofs.Common.{ℕ, ◌≤◌, length, subst, ◌∙◌, arith}
 use Rattle.std.proofs.lemmas.Grind.{common_steps}
 use Rattle.tl_source.proofs.Askings.{asked}
-use Rattle.tl_get.proofs.Fits.{gets_fits}
+use Rattle.tl_http.proofs.Fits.{gets_fits}
 use Rattle.tl_source.proofs.asking.ask.Goals as goal
 
 pub returns-in-Ok-clause-short : goal.returns-in-Ok-clause-short

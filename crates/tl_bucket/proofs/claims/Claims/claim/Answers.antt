@@ -5,7 +5,7 @@ use Rattle.tl_bucket.specs.Claims.{Claims}
 use Rattle.tl_bucket.specs.Inner.Outcomes.{Concludes}
 use Rattle.tl_bucket.specs.Shelved.{commit_at}
 use Rattle.tl_bucket.specs.declared.asking.PutOutcome.{PutOutcome}
-use Rattle.tl_get.specs.Post.{value_bytes}
+use Rattle.tl_http.specs.Post.{value_bytes}
 use Rattle.tl_bucket.proofs.Answers.{there}
 use Rattle.tl_bucket.proofs.Claimed.{claimed}
 use Rattle.tl_bucket.proofs.claims.Claims.claim.Goals as goal

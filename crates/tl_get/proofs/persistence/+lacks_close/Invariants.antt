@@ -1,5 +1,0 @@
-use Rattle.std.proofs.Common.{length}
-use Rattle.tl_get.proofs.persistence.+lacks_close.Given as goal
-
-abbrev pub decreases-lacks_close : goal.decreases-lacks_close
-decreases-lacks_close l = length l.headers.now
