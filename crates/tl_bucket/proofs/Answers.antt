@@ -4,17 +4,17 @@ use Rattle.std.specs.Prelude.{Ok, Err, Result, IfOk}
 use Rattle.tl_device.specs.Device.{Passage}
 use Rattle.tl_http.specs.Post.{value_bytes}
 use Rattle.tl_hash.specs.Bytes.{Bytes}
-use Rattle.tl_put.specs.Answers.{GetsObject, PutsObject, Told, get_told, put_told}
-use Rattle.tl_put.specs.Objects.{Content, Place}
-use Rattle.tl_put.specs.declared.object.Condition.{Condition}
-use Rattle.tl_put.specs.declared.object.GetAnswer.{GetAnswer}
-use Rattle.tl_put.specs.declared.object.GetAnswer.TheVariants as get
-use Rattle.tl_put.specs.declared.object.GetReply.{GetReply}
-use Rattle.tl_put.specs.declared.object.PutAnswer.{PutAnswer}
-use Rattle.tl_put.specs.declared.object.PutAnswer.TheVariants as put
-use Rattle.tl_put.specs.declared.object.PutReply.{PutReply}
-use Rattle.tl_put.specs.declared.fault.ObjectFault.{ObjectFault}
-use Rattle.tl_sigv4.specs.Time.{Civil}
+use Rattle.tl_s3.specs.Answers.{GetsObject, PutsObject, Told, get_told, put_told}
+use Rattle.tl_s3.specs.Objects.{Content, Place}
+use Rattle.tl_s3.specs.declared.object.Condition.{Condition}
+use Rattle.tl_s3.specs.declared.object.GetAnswer.{GetAnswer}
+use Rattle.tl_s3.specs.declared.object.GetAnswer.TheVariants as get
+use Rattle.tl_s3.specs.declared.object.GetReply.{GetReply}
+use Rattle.tl_s3.specs.declared.object.PutAnswer.{PutAnswer}
+use Rattle.tl_s3.specs.declared.object.PutAnswer.TheVariants as put
+use Rattle.tl_s3.specs.declared.object.PutReply.{PutReply}
+use Rattle.tl_s3.specs.declared.fault.ObjectFault.{ObjectFault}
+use Rattle.tl_s3.specs.Time.{Civil}
 use Rattle.tl_bucket.specs.Answered.{AnswersGet, AnswersPut, IsBare, WasMissing, WasPut, WasPutWith, WasRead, WasReadWith, WasThere, WasThereWith}
 use Rattle.tl_bucket.specs.Inner.Outcomes.{Concludes, Tells}
 use Rattle.tl_bucket.specs.declared.asking.PutOutcome.{PutOutcome}

@@ -1,8 +1,8 @@
 -- A commit that is put.
 use Rattle.std.proofs.Common.{◌≡◌, ℕ, ◌+◌, ◌++◌, inr, None, ap, subst, ◌∙◌}
 use Rattle.tl_hash.specs.Bytes.{Bytes}
-use Rattle.tl_put.specs.Objects.{Place}
-use Rattle.tl_put.specs.declared.object.Condition.TheVariants.{Absent}
+use Rattle.tl_s3.specs.Objects.{Place}
+use Rattle.tl_s3.specs.declared.object.Condition.TheVariants.{Absent}
 use Rattle.tl_bucket.specs.Answered.{WasThere}
 use Rattle.tl_bucket.specs.Claims.{Claims, CommitsEntries, WasCommitted, no_claims, token_of}
 use Rattle.tl_bucket.specs.Commits.{commit_front}

@@ -12,7 +12,7 @@ use Rattle.tl_folder.specs.Events.{Event}
 use Rattle.tl_folder.specs.Folders.{Reached, after_calls, after_each, at_first}
 use Rattle.tl_hash.specs.Bytes.{Bytes}
 use Rattle.tl_ledger.specs.Standing.{Ledger}
-use Rattle.tl_put.specs.Objects.{Place}
+use Rattle.tl_s3.specs.Objects.{Place}
 use Rattle.tl_bucket.specs.Buckets.{Bucketed, bucket_kept, bucket_trace}
 use Rattle.tl_bucket.specs.Commits.{Commit}
 use Rattle.tl_bucket.specs.Finishing.{Finishes, FinishesAll, FinishesOne, FinishesSome, IsBatchOf, IsFirstBehind, WereCommitted}

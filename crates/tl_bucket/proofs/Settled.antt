@@ -7,9 +7,9 @@ use Rattle.tl_archive.specs.Shelves.{Item}
 use Rattle.tl_archive.proofs.Lists.{cons_cases, none_has}
 use Rattle.tl_hash.specs.Bytes.{Bytes}
 use Rattle.tl_folder.specs.Places.{place_of}
-use Rattle.tl_put.specs.Objects.{Place}
-use Rattle.tl_put.specs.declared.object.Condition.{Condition}
-use Rattle.tl_put.specs.declared.object.Condition.TheVariants.{Always}
+use Rattle.tl_s3.specs.Objects.{Place}
+use Rattle.tl_s3.specs.declared.object.Condition.{Condition}
+use Rattle.tl_s3.specs.declared.object.Condition.TheVariants.{Always}
 use Rattle.tl_tile.specs.declared.resource.Resource.{Resource}
 use Rattle.tl_tile.specs.declared.resource.Resource.TheVariants as resource
 use Rattle.tl_bucket.specs.Answered.{IsBare, WasReadWith, WasThere}

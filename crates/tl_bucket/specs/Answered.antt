@@ -3,15 +3,15 @@
 use Rattle.std.specs.Prelude.{◌≡◌, ◌⊎◌, ℕ, [], ◌∷◌, ◌++◌, Option, Result, Ok}
 use Rattle.tl_device.specs.Device.{Passage}
 use Rattle.tl_hash.specs.Bytes.{Bytes}
-use Rattle.tl_put.specs.Answers.{Told, PutsObject, GetsObject}
-use Rattle.tl_put.specs.Objects.{Content, Place}
-use Rattle.tl_put.specs.declared.fault.ObjectFault.{ObjectFault}
-use Rattle.tl_put.specs.declared.object.Condition.{Condition}
-use Rattle.tl_put.specs.declared.object.GetAnswer.{GetAnswer}
-use Rattle.tl_put.specs.declared.object.GetAnswer.TheVariants as get
-use Rattle.tl_put.specs.declared.object.PutAnswer.{PutAnswer}
-use Rattle.tl_put.specs.declared.object.PutAnswer.TheVariants as put
-use Rattle.tl_sigv4.specs.Time.{Civil}
+use Rattle.tl_s3.specs.Answers.{Told, PutsObject, GetsObject}
+use Rattle.tl_s3.specs.Objects.{Content, Place}
+use Rattle.tl_s3.specs.declared.fault.ObjectFault.{ObjectFault}
+use Rattle.tl_s3.specs.declared.object.Condition.{Condition}
+use Rattle.tl_s3.specs.declared.object.GetAnswer.{GetAnswer}
+use Rattle.tl_s3.specs.declared.object.GetAnswer.TheVariants as get
+use Rattle.tl_s3.specs.declared.object.PutAnswer.{PutAnswer}
+use Rattle.tl_s3.specs.declared.object.PutAnswer.TheVariants as put
+use Rattle.tl_s3.specs.Time.{Civil}
 
 -- a signed put of the object under the condition came to this
 abbrev pub AnswersPut : Place → Content → Condition → Result (Told PutAnswer) ObjectFault → Type 0

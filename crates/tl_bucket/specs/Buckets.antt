@@ -4,9 +4,9 @@ use Rattle.tl_archive.specs.Shelves.{Held, Item, Kept}
 use Rattle.tl_folder.specs.Events.{Event}
 use Rattle.tl_folder.specs.Folders.{Reached, after_calls, after_each, at_first}
 use Rattle.tl_hash.specs.Bytes.{Bytes}
-use Rattle.tl_put.specs.Objects.{Place}
-use Rattle.tl_put.specs.declared.object.Condition.{Condition}
-use Rattle.tl_put.specs.declared.object.Condition.TheVariants as condition
+use Rattle.tl_s3.specs.Objects.{Place}
+use Rattle.tl_s3.specs.declared.object.Condition.{Condition}
+use Rattle.tl_s3.specs.declared.object.Condition.TheVariants as condition
 use Rattle.tl_tile.specs.declared.resource.Resource.{Resource}
 use Rattle.tl_tile.specs.declared.resource.Resource.TheVariants as resource
 use Rattle.tl_bucket.specs.Answered.{IsBare, WasThereWith}

@@ -1,8 +1,8 @@
 -- What an operator claims by commits, before anybody sees it.
 use Rattle.std.specs.Prelude.{◌≡◌, ◌⊎◌, ℕ, ◌+◌, ◌-◌, ◌*◌, max, [], ◌++◌, Option, Some, None}
 use Rattle.tl_hash.specs.Bytes.{Bytes}
-use Rattle.tl_put.specs.Objects.{Place}
-use Rattle.tl_put.specs.declared.object.Condition.TheVariants.{Absent}
+use Rattle.tl_s3.specs.Objects.{Place}
+use Rattle.tl_s3.specs.declared.object.Condition.TheVariants.{Absent}
 use Rattle.tl_bucket.specs.Answered.{WasThere}
 use Rattle.tl_bucket.specs.Commits.{IsBehind, commit_front}
 use Rattle.tl_bucket.specs.Shelved.{commit_at}

@@ -11,7 +11,7 @@ use Rattle.tl_hash.specs.Bytes.{Bytes}
 use Rattle.tl_ledger.specs.Opening.{Found, IsOfSigned, found_size}
 use Rattle.tl_ledger.specs.Standing.{Ledger}
 use Rattle.tl_note.specs.Key.{Key}
-use Rattle.tl_put.specs.Objects.{Place}
+use Rattle.tl_s3.specs.Objects.{Place}
 use Rattle.tl_bucket.specs.Buckets.{Bucketed, Shown, bucket_kept, bucket_trace}
 use Rattle.tl_bucket.specs.Commits.{Commit}
 use Rattle.tl_bucket.specs.Opened.{WasReadAs}

@@ -1,9 +1,9 @@
 -- How far the log in a bucket goes, as an operator finds out at its start.
 use Rattle.std.specs.Prelude.{◌≡◌, ◌⊎◌, ℕ, ◌+◌, [], Bool, not, ◌||◌, nat_lt, Option, Some, None, is_some, length}
 use Rattle.tl_hash.specs.Bytes.{Bytes}
-use Rattle.tl_put.specs.Objects.{Content, Place}
-use Rattle.tl_put.specs.declared.object.Condition.TheVariants as condition
-use Rattle.tl_put.specs.declared.object.PutAnswer.TheVariants.{Refused}
+use Rattle.tl_s3.specs.Objects.{Content, Place}
+use Rattle.tl_s3.specs.declared.object.Condition.TheVariants as condition
+use Rattle.tl_s3.specs.declared.object.PutAnswer.TheVariants.{Refused}
 use Rattle.tl_folder.specs.Places.{place_of}
 use Rattle.tl_tile.specs.declared.resource.Resource.TheVariants as resource
 use Rattle.tl_bucket.specs.Answered.{IsBare, WasMissing, WasPut, WasRead, WasReadWith}

@@ -3,8 +3,8 @@ use Rattle.std.specs.Prelude.{ℕ, List, [], ◌++◌, Contains, codes}
 use Rattle.tl_archive.specs.Shelves.{Item}
 use Rattle.tl_folder.specs.Places.{place_of}
 use Rattle.tl_hash.specs.Bytes.{Bytes}
-use Rattle.tl_put.specs.Objects.{Content, Place}
-use Rattle.tl_put.specs.declared.object.Condition.TheVariants.{Always}
+use Rattle.tl_s3.specs.Objects.{Content, Place}
+use Rattle.tl_s3.specs.declared.object.Condition.TheVariants.{Always}
 use Rattle.tl_text.specs.Text.{number_text}
 use Rattle.tl_tile.specs.declared.resource.Resource.{Resource}
 use Rattle.tl_tile.specs.declared.resource.Resource.TheVariants as resource

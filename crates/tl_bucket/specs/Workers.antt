@@ -1,7 +1,7 @@
 -- Workers that put side by side.
 use Rattle.std.specs.Prelude.{List, Result}
 use Rattle.tl_archive.specs.Shelves.{Item}
-use Rattle.tl_put.specs.Objects.{Place}
+use Rattle.tl_s3.specs.Objects.{Place}
 use Rattle.tl_bucket.specs.declared.fault.BucketFault.{BucketFault}
 
 -- what a worker has to put, and where; and what it tells of that

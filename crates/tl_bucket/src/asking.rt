@@ -4,7 +4,7 @@ ghost use Rattle.std.specs.Prelude.{◌≡◌, IfOk, IfSome};
 ghost use Rattle.tl_bucket.specs.Answered.{WasReadWith};
 ghost use Rattle.tl_bucket.specs.Inner.Outcomes.{Concludes, Finds, Tells};
 ghost use Rattle.tl_http.specs.Post.{value_bytes};
-ghost use Rattle.tl_put.specs.Objects.{content_of};
+ghost use Rattle.tl_s3.specs.Objects.{content_of};
 
 use crate::client::{Client, Connection, now};
 use crate::fault::BucketFault;
@@ -14,7 +14,7 @@ use std::net::{Net, TcpStream};
 use std::thread;
 use std::time::{Clock, Duration, Instant};
 use tl_device::DeviceFault;
-use tl_put::{Condition, GetAnswer, GetReply, Object, PutAnswer, PutReply};
+use tl_s3::{Condition, GetAnswer, GetReply, Object, PutAnswer, PutReply};
 
 // For how many seconds a request that fails is sent again.
 const PATIENCE: u64 = 60;

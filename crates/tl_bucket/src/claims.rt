@@ -5,8 +5,8 @@ ghost use Rattle.tl_bucket.specs.Claims.{Adds, CommitsEntries, no_claims, no_cla
 ghost use Rattle.tl_bucket.specs.Commits.{commit_front};
 ghost use Rattle.tl_bucket.specs.Inner.Outcomes.{Concludes, Finds};
 ghost use Rattle.tl_bucket.specs.Shelved.{commit_at, commit_path};
-ghost use Rattle.tl_put.specs.Objects.{content_of};
-ghost use Rattle.tl_put.specs.declared.object.Condition.TheVariants.{Absent};
+ghost use Rattle.tl_s3.specs.Objects.{content_of};
+ghost use Rattle.tl_s3.specs.declared.object.Condition.TheVariants.{Absent};
 
 use crate::asking::{Found, MOST_BYTES, PutOutcome};
 use crate::client::{Client, Connection};
@@ -19,7 +19,7 @@ use std::marker::Model;
 use std::net::{Net, TcpStream};
 use std::time::Clock;
 use tl_device::DeviceFault;
-use tl_put::{Condition, Object};
+use tl_s3::{Condition, Object};
 
 // The path of the commit with this number.
 fn commit_path(alloc: Global, number: u64) -> Result<String, AllocError>

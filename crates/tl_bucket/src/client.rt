@@ -2,8 +2,8 @@
 
 ghost use Rattle.std.specs.Prelude.{◌≡◌, IfOk, Ok, OnOk};
 ghost use Rattle.tl_bucket.specs.Answered.{AnswersGet, AnswersPut};
-ghost use Rattle.tl_put.specs.Answers.{get_told, put_told};
-ghost use Rattle.tl_put.specs.Objects.{content_of, place_of};
+ghost use Rattle.tl_s3.specs.Answers.{get_told, put_told};
+ghost use Rattle.tl_s3.specs.Objects.{content_of, place_of};
 
 use crate::fault::BucketFault;
 use std::alloc::Global;
@@ -11,8 +11,8 @@ use std::marker::Model;
 use std::net::{Net, TcpStream};
 use std::time::{Clock, Duration, Instant, SystemTime, UNIX_EPOCH};
 use tl_device::{Counted, DeviceFault, Timed};
-use tl_put::{Bucket, Condition, GetReply, Object, PutReply, get_object, put_object};
-use tl_sigv4::{Credential, Moment};
+use tl_s3::{Bucket, Condition, GetReply, Object, PutReply, get_object, put_object};
+use tl_s3::{Credential, Moment};
 use tl_source::{Url, connect};
 
 // The most time that one request takes.
@@ -30,7 +30,7 @@ pub struct Client<'b, H> {
 }
 
 impl<'b, H> Model for Client<'b, H> {
-    ghost use Rattle.tl_put.specs.Objects.{Place, place_of};
+    ghost use Rattle.tl_s3.specs.Objects.{Place, place_of};
 
     ghost Value = { Place };
 
@@ -38,7 +38,7 @@ impl<'b, H> Model for Client<'b, H> {
 }
 
 impl<'b, H> Client<'b, H> {
-    ghost use Rattle.tl_sigv4.specs.Requests.{credential_of};
+    ghost use Rattle.tl_s3.specs.CanonicalRequests.{credential_of};
 
     /// The bucket at this address: what follows the host and the port stands before each object's path. Nothing is
     /// asked for yet.

@@ -9,7 +9,7 @@ use std::error::Error;
 use std::fmt::{self, Display, Formatter};
 use tl_device::DeviceFault;
 use tl_http::HttpFault;
-use tl_put::ObjectFault;
+use tl_s3::ObjectFault;
 
 /// Why a bucket failed.
 #[derive(Clone, Copy, Debug, PartialEq, Eq)]

@@ -22,7 +22,7 @@ use std::net::{Net, TcpStream};
 use std::time::Clock;
 use tl_device::DeviceFault;
 use tl_folder::{most_bytes, path_under};
-use tl_put::Condition;
+use tl_s3::Condition;
 use tl_tile::Resource;
 
 /// The path of the checkpoint.

@@ -6,8 +6,8 @@ ghost use Rattle.tl_bucket.specs.Buckets.{no_objects};
 ghost use Rattle.tl_bucket.specs.Claims.{no_claims};
 ghost use Rattle.tl_bucket.specs.Opened.{BeginsThere, EndsAt, HasCommit, IsAtEnd, has_log};
 ghost use Rattle.tl_bucket.specs.Opened.{IsLastFound, KnowsShown, LacksCommit, RefusesPuts, WasReadAs};
-ghost use Rattle.tl_put.specs.Objects.{Content};
-ghost use Rattle.tl_put.specs.declared.object.PutAnswer.TheVariants.{Refused};
+ghost use Rattle.tl_s3.specs.Objects.{Content};
+ghost use Rattle.tl_s3.specs.declared.object.PutAnswer.TheVariants.{Refused};
 ghost use Rattle.tl_bucket.specs.Inner.Puts.{shown_of};
 ghost use Rattle.tl_bucket.specs.Inner.Searches.{AreBounds};
 
@@ -23,7 +23,7 @@ use std::net::{Net, TcpStream};
 use std::time::Clock;
 use tl_device::DeviceFault;
 use tl_folder::CrashOutcome;
-use tl_put::{Condition, Object};
+use tl_s3::{Condition, Object};
 
 // What is put to see whether a store keeps conditions.
 const PROBE: Object<'static> = Object {

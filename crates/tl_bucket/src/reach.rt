@@ -5,7 +5,7 @@ ghost use Rattle.std.specs.Prelude.{◌≡◌, IfOk, IsTrue};
 use crate::client::Client;
 use std::alloc::{AllocError, Global};
 use std::marker::Model;
-use tl_sigv4::Credential;
+use tl_s3::Credential;
 use tl_source::Url;
 
 /// The address of a bucket, and the key that signs requests to it.
@@ -23,7 +23,7 @@ pub(crate) struct Reach {
 
 impl Model for Reach {
     ghost use Rattle.std.specs.Prelude.{string_bytes};
-    ghost use Rattle.tl_put.specs.Objects.{Place};
+    ghost use Rattle.tl_s3.specs.Objects.{Place};
 
     ghost Value = { Place };
 

@@ -5,7 +5,7 @@ ghost use Rattle.tl_bucket.specs.Answered.{WasThere};
 ghost use Rattle.tl_bucket.specs.Inner.Puts.{IsThere, item_of};
 ghost use Rattle.tl_bucket.specs.Shelved.{caching_of, content_at, media_of};
 ghost use Rattle.tl_folder.specs.Places.{place_of};
-ghost use Rattle.tl_put.specs.Objects.{content_of};
+ghost use Rattle.tl_s3.specs.Objects.{content_of};
 
 use crate::asking::PutOutcome;
 use crate::client::{Client, Connection};
@@ -15,7 +15,7 @@ use std::net::{Net, TcpStream};
 use std::time::Clock;
 use tl_device::DeviceFault;
 use tl_folder::{has_path, path_under};
-use tl_put::{Condition, Object};
+use tl_s3::{Condition, Object};
 use tl_tile::Resource;
 
 /// How long others may keep what never changes.

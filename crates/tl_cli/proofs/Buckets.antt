@@ -3,7 +3,7 @@ use Rattle.std.proofs.Common.{◌≡◌, ◌⊎◌, ℕ, false, true≢false, Er
 use Rattle.tl_bucket.specs.Buckets.{Bucketed, Objects, no_objects}
 use Rattle.tl_bucket.specs.Opened.{BeginsThere, IsAtEnd, KnowsShown, RefusesPuts}
 use Rattle.tl_hash.specs.Bytes.{Bytes}
-use Rattle.tl_put.specs.Objects.{Place}
+use Rattle.tl_s3.specs.Objects.{Place}
 use Rattle.tl_run.specs.declared.fault.RunFault.{RunFault}
 use Rattle.tl_cli.specs.InBucket.{EndsInBucket, IsKeyFor, IsPlaceOf, IsRefused, IsToken, OpensBucket}
 use Rattle.tl_cli.specs.declared.own_bucket.BucketOptions.{BucketOptions}

@@ -14,7 +14,7 @@ use Rattle.tl_device.specs.Device.{Passage, IsUnread}
 use Rattle.tl_folder.specs.Folders.{Reached}
 use Rattle.tl_hash.specs.Bytes.{Bytes}
 use Rattle.tl_ledger.specs.Opening.{Found, found_size}
-use Rattle.tl_put.specs.Objects.{Place}
+use Rattle.tl_s3.specs.Objects.{Place}
 use Rattle.tl_serve.specs.Serving.{IsLeft, Serves}
 use Rattle.tl_serve.specs.declared.options.ServeOptions.{ServeOptions}
 use Rattle.tl_source.specs.Url.{IsUrl}

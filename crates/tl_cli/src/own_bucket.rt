@@ -17,7 +17,7 @@ use tl_bucket::{BucketFault, BucketShelf, Client};
 use tl_run::{RunFault, read_file};
 use tl_device::DeviceFault;
 use tl_folder::CrashOutcome;
-use tl_sigv4::Credential;
+use tl_s3::Credential;
 use tl_source::Url;
 use tl_text::{is_one_line, split_line};
 

@@ -7,8 +7,8 @@ use std::alloc::{AllocError, Global};
 use std::str;
 use tl_device::Counted;
 use tl_http::HttpFault;
-use tl_put::{Bucket, Condition, GetReply, Object, ObjectFault, PutReply, get_object, put_object};
-use tl_sigv4::Moment;
+use tl_s3::{Bucket, Condition, GetReply, Object, ObjectFault, PutReply, get_object, put_object};
+use tl_s3::Moment;
 
 // The bucket of the rows.
 const BUCKET: Bucket<'static> = Bucket {

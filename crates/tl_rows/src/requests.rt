@@ -2,7 +2,7 @@
 
 use crate::words::{Told, Words, bytes_of, put_hash};
 use std::alloc::{AllocError, Global};
-use tl_sigv4::{
+use tl_s3::{
     Credential, Field, Moment, Request, authorization, canonical_request, is_canonical,
     payload_digest, signing_key, string_to_sign,
 };

@@ -2,10 +2,10 @@
 use Rattle.std.specs.Prelude.{◌≡◌, Option, Some, None, vec_items}
 use Rattle.tl_http.specs.Post.{value_bytes}
 use Rattle.tl_hash.specs.Bytes.{Bytes}
-use Rattle.tl_put.specs.Objects.{Content, Place}
-use Rattle.tl_put.specs.declared.object.Condition.{Condition}
-use Rattle.tl_put.specs.declared.object.PutAnswer.{PutAnswer}
-use Rattle.tl_put.specs.declared.object.PutAnswer.TheVariants as put
+use Rattle.tl_s3.specs.Objects.{Content, Place}
+use Rattle.tl_s3.specs.declared.object.Condition.{Condition}
+use Rattle.tl_s3.specs.declared.object.PutAnswer.{PutAnswer}
+use Rattle.tl_s3.specs.declared.object.PutAnswer.TheVariants as put
 use Rattle.tl_bucket.specs.Answered.{WasMissing, WasPut, WasReadWith, WasThereWith}
 use Rattle.tl_bucket.specs.declared.asking.Found.{Found}
 use Rattle.tl_bucket.specs.declared.asking.PutOutcome.{PutOutcome}

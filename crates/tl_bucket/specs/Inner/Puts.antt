@@ -1,8 +1,8 @@
 -- Resources that wait to be put, and the checkpoint that is there.
 use Rattle.std.specs.Prelude.{string_bytes, vec_items}
 use Rattle.tl_archive.specs.Shelves.{Item}
-use Rattle.tl_put.specs.Objects.{Place}
-use Rattle.tl_put.specs.declared.object.Condition.TheVariants.{Always}
+use Rattle.tl_s3.specs.Objects.{Place}
+use Rattle.tl_s3.specs.declared.object.Condition.TheVariants.{Always}
 use Rattle.tl_bucket.specs.Answered.{WasThere}
 use Rattle.tl_bucket.specs.Buckets as seen
 use Rattle.tl_bucket.specs.Shelved.{content_at}

@@ -1,6 +1,6 @@
 -- Where the last commit is looked for.
 use Rattle.std.specs.Prelude.{◌≡◌, ◌⊎◌, ℕ}
-use Rattle.tl_put.specs.Objects.{Place}
+use Rattle.tl_s3.specs.Objects.{Place}
 use Rattle.tl_bucket.specs.Opened.{HasCommit, LacksCommit}
 
 -- the commit with the lower number was there, or it is 0, and the one with the higher number wasn't

@@ -1,5 +1,5 @@
 use Rattle.std.proofs.Common.{◌≡◌, ℕ, ◌+◌, ◌-◌, subst, arith}
-use Rattle.tl_put.specs.Objects.{Place}
+use Rattle.tl_s3.specs.Objects.{Place}
 use Rattle.tl_bucket.specs.Opened.{IsLastFound, LacksCommit}
 use Rattle.tl_bucket.specs.Inner.Searches.{AreBounds}
 use Rattle.tl_bucket.proofs.opening.last_commit.Goals as goal

@@ -1,8 +1,8 @@
 use Rattle.std.proofs.Common.{ap, subst, ◌∙◌}
 use Rattle.tl_http.specs.Post.{value_bytes}
 use Rattle.tl_hash.specs.Bytes.{Bytes}
-use Rattle.tl_put.specs.Objects.{Content, content_of}
-use Rattle.tl_put.specs.declared.object.Condition.TheVariants.{Always}
+use Rattle.tl_s3.specs.Objects.{Content, content_of}
+use Rattle.tl_s3.specs.declared.object.Condition.TheVariants.{Always}
 use Rattle.tl_bucket.specs.Answered.{WasThere}
 use Rattle.tl_bucket.specs.Inner.Outcomes.{Concludes}
 use Rattle.tl_bucket.specs.Shelved.{content_at}

@@ -1,6 +1,6 @@
 use Rattle.std.proofs.Common.{ap, arith, subst}
 use Rattle.std.proofs.lemmas.Grind.{common_steps}
-use Rattle.tl_put.specs.declared.object.Condition.TheVariants.{Absent}
+use Rattle.tl_s3.specs.declared.object.Condition.TheVariants.{Absent}
 use Rattle.tl_bucket.specs.Claims.{Claims}
 use Rattle.tl_bucket.specs.Inner.Outcomes.{Concludes}
 use Rattle.tl_bucket.specs.Shelved.{commit_at}

@@ -1,6 +1,6 @@
 use Rattle.std.proofs.Common.{Ok}
-use Rattle.tl_put.specs.Answers.{get_told}
-use Rattle.tl_put.specs.Objects.{place_of}
+use Rattle.tl_s3.specs.Answers.{get_told}
+use Rattle.tl_s3.specs.Objects.{place_of}
 use Rattle.tl_bucket.proofs.Answers.{answered_get}
 use Rattle.tl_bucket.proofs.client.Client.get_over.Goals as goal
 

@@ -1,6 +1,6 @@
 use Rattle.std.proofs.Common.{Ok}
-use Rattle.tl_put.specs.Answers.{put_told}
-use Rattle.tl_put.specs.Objects.{content_of, place_of}
+use Rattle.tl_s3.specs.Answers.{put_told}
+use Rattle.tl_s3.specs.Objects.{content_of, place_of}
 use Rattle.tl_bucket.proofs.Answers.{answered_put}
 use Rattle.tl_bucket.proofs.client.Client.put_over.Goals as goal
 

@@ -1,4 +1,4 @@
-use Rattle.tl_put.specs.Objects.{content_of}
+use Rattle.tl_s3.specs.Objects.{content_of}
 use Rattle.tl_bucket.proofs.Answers.{concluded}
 use Rattle.tl_bucket.proofs.client.Connection.put_answered.Goals as goal
 

@@ -1,6 +1,6 @@
 use Rattle.std.proofs.Common.{◌≡◌, refl, subst, ◌∙◌, arith, rules}
 use Rattle.std.proofs.lemmas.Grind.{common_steps}
-use Rattle.tl_put.specs.Objects.{Place}
+use Rattle.tl_s3.specs.Objects.{Place}
 use Rattle.tl_bucket.specs.Finishing.{FinishesSome}
 use Rattle.tl_bucket.proofs.Finishes.{HasFinished, between, ended, none_finished, none_put, one_more, part_more}
 use Rattle.tl_bucket.proofs.shelf.BucketShelf.finish.Goals as goal

@@ -1,6 +1,6 @@
 use Rattle.std.proofs.Common.{◌-◌, ◌∙◌, ap, subst, map, vec_items, refl, arith}
 use Rattle.std.proofs.lemmas.Grind.{common_steps}
-use Rattle.tl_put.specs.Objects.{Place}
+use Rattle.tl_s3.specs.Objects.{Place}
 use Rattle.tl_bucket.specs.Buckets.{Bucketed}
 use Rattle.tl_bucket.specs.Commits.{Commit}
 use Rattle.tl_bucket.specs.Opened.{WasReadAs}

@@ -1,3 +1,0 @@
--- Private words: what contracts of private functions and proofs need.
-pub
-    mod Sendings

@@ -1,0 +1,4 @@
+mod Names
+mod Texts
+mod Times
+pub mod AskLemmas

@@ -1,0 +1,27 @@
+-- Requests and credentials as they are signed.
+use Rattle.std.specs.Prelude.{map}
+use Rattle.tl_s3.specs.declared.credential.Credential.{Credential}
+use Rattle.tl_s3.specs.declared.request.Field.{Field}
+use Rattle.tl_s3.specs.declared.request.Request.{Request}
+use Rattle.tl_s3.specs.Canonical.{Pair, Signed}
+use Rattle.tl_s3.specs.Signing.{Scoped}
+
+-- a field's name and value
+abbrev pub field_of : Field → Pair
+field_of f = (f.name.now, f.value.now)
+
+-- what of a request is signed
+abbrev pub request_of : Request → Signed
+request_of r =
+    record {
+      method = r.method.now;
+      path = r.path.now;
+      query = r.query.now;
+      fields = map field_of r.fields.now;
+      payload = r.payload.now;
+    }
+
+-- who signs, and where the signature is good
+abbrev pub credential_of : Credential → Scoped
+credential_of c =
+    record { id = c.id.now; secret = c.secret.now; region = c.region.now; service = c.service.now }

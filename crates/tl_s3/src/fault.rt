@@ -1,0 +1,46 @@
+//! Why there is no answer of a server.
+
+ghost use Rattle.std.specs.Prelude.{◌≡◌};
+ghost use Rattle.tl_s3.specs.declared.fault.ObjectFault.TheVariants as faults;
+
+use std::alloc::{AllocError, AllocFailed};
+use thiserror::Error;
+use tl_http::HttpFault;
+
+/// Why there is no answer of a server to a put or a get, in the order in which the refusals are checked.
+#[derive(Clone, Copy, Debug, PartialEq, Eq, Error)]
+pub enum ObjectFault {
+    /// Memory for the request was refused. Nothing was written or read.
+    #[error("out of memory")]
+    OutOfMemory,
+    /// A value of a field has a blank at an end, or two together. Nothing was written or read.
+    #[error("the request can't be signed")]
+    BadField,
+    /// There is no response that is taken. But for `BadTarget` this doesn't tell whether an object was put.
+    #[error("{0}")]
+    Get(HttpFault),
+}
+
+impl From<AllocError> for ObjectFault {
+    ghost from_gives = { λ _ fault. fault ≡ faults.OutOfMemory };
+
+    fn from(_fault: AllocError) -> ObjectFault {
+        ObjectFault::OutOfMemory
+    }
+}
+
+impl<X: Drop> From<AllocFailed<X>> for ObjectFault {
+    ghost from_gives = { λ _ fault. fault ≡ faults.OutOfMemory };
+
+    fn from(_fault: AllocFailed<X>) -> ObjectFault {
+        ObjectFault::OutOfMemory
+    }
+}
+
+impl From<HttpFault> for ObjectFault {
+    ghost from_gives = { λ fault told. told ≡ faults.Get fault };
+
+    fn from(fault: HttpFault) -> ObjectFault {
+        ObjectFault::Get(fault)
+    }
+}

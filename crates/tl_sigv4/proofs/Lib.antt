@@ -1,3 +1,0 @@
-mod Names
-mod Texts
-mod Times

@@ -1,6 +1,0 @@
-use Rattle.std.proofs.Common.{◌≡◌, drop}
-use Rattle.tl_sigv4.specs.Canonical.{is_lower}
-use Rattle.tl_sigv4.proofs.form.is_lower.Given as goal
-
-abbrev pub invariant-loop-byte : goal.invariant-loop-byte
-invariant-loop-byte l = is_lower l.text ≡ is_lower (drop l.byte-index l.text)

@@ -1,3 +1,0 @@
--- Private words: the digits of a date of HTTP.
-pub
-    mod Digits
