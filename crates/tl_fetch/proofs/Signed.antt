@@ -1,7 +1,7 @@
 -- A note of a log, as it is proposed to witnesses.
 use Rattle.tl_hash.specs.Bytes.{Bytes}
 use Rattle.tl_hash.specs.declared.head.Head.{Head}
-use Rattle.tl_cosign.specs.Proposing.{IsSignedBy}
+use Rattle.tl_feed.specs.Proposing.{IsSignedBy}
 use Rattle.tl_fetch.specs.Trusting.{IsNoteOf, Policy, alone}
 
 -- the log signed it

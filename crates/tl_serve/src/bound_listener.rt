@@ -9,7 +9,7 @@ use std::net::{Net, SocketAddr, TcpListener, TcpStream};
 use std::os::fd::RawFd;
 use std::sync::Arc;
 use tl_run::RunFault;
-use tl_cosign::Ballot;
+use tl_feed::Ballot;
 use tl_device::Counted;
 
 /// The bound address of a server. No other process has it while this lasts. Clients that connect

@@ -12,7 +12,7 @@ use std::time::{Clock, Duration};
 use tl_append::{AsksCosigners, ProposalStore};
 use tl_archive::Shelf;
 use tl_run::{RunFault, print_text};
-use tl_cosign::{Ballot, BallotEvent, HttpWitness, LogKeys, ShelfReader, Unasked, ask_in_rounds};
+use tl_feed::{Ballot, BallotEvent, HttpWitness, LogKeys, ShelfReader, Unasked, ask_in_rounds};
 use tl_device::Counted;
 use tl_note::Verifier;
 use tl_source::Url;

@@ -28,7 +28,7 @@ use tl_append::{
 use tl_archive::Shelf;
 use tl_checkpoint::have_distinct_names;
 use tl_run::RunFault;
-use tl_cosign::Ballot;
+use tl_feed::Ballot;
 use tl_device::Counted;
 use tl_key::CosignerVerifier;
 use tl_ledger::Found;

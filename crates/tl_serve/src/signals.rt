@@ -9,7 +9,7 @@ use std::sync::atomic::{AtomicBool, AtomicU64, Ordering};
 use std::sync::{Arc, Mutex, Wait};
 use std::time::Duration;
 use tl_run::RunFault;
-use tl_cosign::Ballot;
+use tl_feed::Ballot;
 use tl_loop::Event;
 
 /// What happens beside the thread that carries out steps.

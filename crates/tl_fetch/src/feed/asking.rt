@@ -6,7 +6,7 @@ ghost use Rattle.tl_fetch.specs.Trusting.{IsNoteOf, alone, policy_of};
 use crate::policy::Policy;
 use std::alloc::Global;
 use tl_client::{Head, ResourceSource};
-use tl_cosign::{AsksWitness, Proposed, Unasked, line_of};
+use tl_feed::{AsksWitness, Proposed, Unasked, line_of};
 use tl_device::DeviceFault;
 use tl_note::Verifier;
 

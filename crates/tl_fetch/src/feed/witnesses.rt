@@ -13,7 +13,7 @@ use std::io::Write;
 use std::net::{Net, TcpStream};
 use std::time::{Clock, Duration};
 use tl_run::{RunFault, print_text};
-use tl_cosign::{HttpWitness, Unasked};
+use tl_feed::{HttpWitness, Unasked};
 use tl_device::Counted;
 use tl_source::Url;
 

@@ -1,4 +1,0 @@
-pub mod Growths
-pub mod GivenLines
-pub mod Faults
-pub mod Others

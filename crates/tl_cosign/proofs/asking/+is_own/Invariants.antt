@@ -1,5 +1,0 @@
-use Rattle.std.proofs.Common.{length}
-use Rattle.tl_cosign.proofs.asking.+is_own.Given as goal
-
-abbrev pub decreases-is_own : goal.decreases-is_own
-decreases-is_own g l = length l.keys.now

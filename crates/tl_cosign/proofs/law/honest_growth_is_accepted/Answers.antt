@@ -1,5 +1,0 @@
-use Rattle.tl_cosign.proofs.Growths.{accepted_from}
-use Rattle.tl_cosign.proofs.law.honest_growth_is_accepted.Goals as goal
-
-pub returns : goal.returns
-returns g c = accepted_from (g.S.ResourceSource.may_answer c.args._source.now)

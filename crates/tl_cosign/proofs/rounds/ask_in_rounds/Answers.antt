@@ -1,6 +1,0 @@
-use Rattle.std.proofs.Common.{arith}
-use Rattle.std.proofs.lemmas.Grind.{common_steps}
-use Rattle.tl_cosign.proofs.rounds.ask_in_rounds.Goals as goal
-
-pub loop-preserved : goal.loop-preserved
-loop-preserved g c = grind (arith, common_steps)

@@ -1,6 +1,0 @@
--- The definitions of asking witnesses about what a log proposes (C2SP tlog-witness, tlog-cosignature).
-pub mod Growing
-pub mod Proposing
-pub mod Lines
-pub mod Refusing
-pub mod Inner

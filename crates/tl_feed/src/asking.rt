@@ -1,0 +1,45 @@
+//! One question to a witness, and its answer.
+
+ghost use Rattle.tl_device.specs.Device.{passage};
+ghost use Rattle.tl_feed.specs.Answer.{answered};
+ghost use Rattle.tl_feed.specs.Asking.{Asks};
+ghost use Rattle.tl_feed.specs.Question.{body_of};
+
+use crate::fault::AskFault;
+use crate::question::{Question, WitnessAnswer};
+use crate::reading::read_answer;
+use crate::writing::question_bytes;
+use std::alloc::Allocator;
+use std::io::{Read, Write};
+use tl_device::Counted;
+use tl_http::{Post, post};
+
+// The most bytes of an answer's body.
+const MOST_ANSWER: usize = 16_384;
+
+/// Asks a witness to cosign a checkpoint: one POST request of the question to a target of its host, and what it
+/// answers, in at most 16,384 bytes (C2SP tlog-witness, "add-checkpoint"). `AskFault` says why it neither cosigned nor
+/// told a size. No signature is verified, and nothing that comes is trusted. The connection is of no use then.
+pub fn ask_witness<A: Allocator + Copy, I: Read, O: Write>(
+    alloc: A,
+    reader: &mut Counted<I>,
+    writer: &mut Counted<O>,
+    host: &str,
+    target: &str,
+    question: &Question<'_>,
+) -> Result<WitnessAnswer<A>, AskFault>
+    ensures { Asks host.now target.now (body_of question.now)
+        (passage I.remaining reader.old reader.new)
+        (passage O.contents writer.old writer.new) (answered result) }
+{
+    let body = question_bytes(alloc, question)?;
+    let asked = Post {
+        host,
+        target,
+        body: body.as_slice(),
+        statuses: &[200, 409],
+        field: "Content-Type",
+    };
+    let reply = post(alloc, reader, writer, &asked, MOST_ANSWER)?;
+    read_answer(alloc, reply)
+}

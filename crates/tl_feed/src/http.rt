@@ -1,0 +1,95 @@
+//! A witness that is asked over HTTP.
+
+ghost use Rattle.std.specs.Prelude.{IfErr};
+ghost use Rattle.tl_feed.specs.Refusing.{IsOfAsking};
+
+use crate::asking::ask_witness;
+use crate::fault::AskFault;
+use crate::question::{Question, WitnessAnswer};
+use crate::proposed::{AsksWitness, Proposed};
+use crate::unasked::Unasked;
+use std::alloc::{AllocError, Global};
+use std::net::{Net, TcpStream};
+use std::time::{Clock, Duration, Instant};
+use tl_client::ResourceSource;
+use tl_device::{Counted, DeviceFault, Timed};
+use tl_http::HttpFault;
+use tl_source::{Url, connect};
+
+// Where a witness is asked under its address (C2SP tlog-witness, "add-checkpoint").
+const TARGET: &str = "/add-checkpoint";
+
+/// A witness at an address (C2SP tlog-witness, "add-checkpoint"), asked by a connection of its own each time, which has
+/// to end in time.
+#[derive(Drop)]
+pub struct HttpWitness<'w, H> {
+    /// What opens connections.
+    pub rt: &'w H,
+    /// What memory is taken from.
+    pub alloc: Global,
+    /// The witness's address.
+    pub url: Url<'w>,
+    /// The most time that an answer takes, but for the look-up of the host's name.
+    pub limit: Duration,
+}
+
+impl<H: Net<Stream = TcpStream> + Clock> HttpWitness<'_, H> {
+    // The target under the witness's address.
+    fn target(&self) -> Result<String, AllocError> {
+        let front = self.url.prefix.strip_suffix('/').unwrap_or(self.url.prefix);
+        let mut target = String::from_str(self.alloc, front)?;
+        target.push_str(TARGET)?;
+        Ok(target)
+    }
+
+    // What it answers.
+    fn answer(&self, question: &Question<'_>) -> Result<WitnessAnswer<Global>, Unasked>
+        ensures { IfErr result IsOfAsking }
+    {
+        let target = self.target()?;
+        let Ok(start) = Instant::now(self.rt) else {
+            return Err(Unasked::Device(DeviceFault::System));
+        };
+        let stream = connect(self.rt, &self.url, &start, self.limit)?;
+        let mut reader = Counted::new(Timed::new(self.rt, &stream, start, self.limit));
+        let mut writer = Counted::new(Timed::new(self.rt, &stream, start, self.limit));
+        match ask_witness(
+            self.alloc,
+            &mut reader,
+            &mut writer,
+            self.url.authority,
+            target.as_str(),
+            question,
+        ) {
+            Ok(answer) => Ok(answer),
+            Err(fault) => Err(self.why_none(&start, fault)),
+        }
+    }
+
+    // Why it gave no answer, that was asked then.
+    fn why_none(&self, start: &Instant, fault: AskFault) -> Unasked
+        ensures { IsOfAsking result }
+    {
+        let is_late = match start.elapsed(self.rt) {
+            Ok(elapsed) => elapsed >= self.limit,
+            Err(_) => false,
+        };
+        match fault {
+            AskFault::Get(HttpFault::Read | HttpFault::Write) if is_late => {
+                Unasked::Device(DeviceFault::TimedOut)
+            }
+            _ => Unasked::Ask(fault),
+        }
+    }
+}
+
+impl<H: Net<Stream = TcpStream> + Clock> AsksWitness for HttpWitness<'_, H> {
+    fn ask<S: ResourceSource>(
+        &mut self,
+        _source: &S,
+        _proposed: &Proposed<'_>,
+        question: &Question<'_>,
+    ) -> Result<WitnessAnswer<Global>, Unasked> {
+        self.answer(question)
+    }
+}

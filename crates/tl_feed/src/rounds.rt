@@ -1,0 +1,96 @@
+//! Asking one witness in each round of a ballot.
+
+ghost use Rattle.std.specs.Prelude.{IfOk, IfSome, map, string_bytes};
+ghost use Rattle.tl_feed.specs.Lines.{CosignsNote};
+
+use crate::fault::AskFault;
+use crate::lines::line_of;
+use crate::ballot::Ballot;
+use crate::failing::{Failure, is_told, next_failure};
+use crate::proposed::{AsksWitness, LogKeys, Proposed};
+use crate::unasked::Unasked;
+use std::alloc::Global;
+use std::sync::Wait;
+use std::time::Clock;
+use tl_checkpoint::{OpenCheckpointFault, open_checkpoint};
+use tl_client::{Head, ResourceSource};
+use tl_note::Verifier;
+
+// The line by which a witness cosigns a note, where it is of the log. None where it isn't, so that nobody is asked.
+fn line_by<S: ResourceSource, Q: AsksWitness>(
+    alloc: Global,
+    source: &S,
+    log: &LogKeys<'_>,
+    note: &str,
+    known: &mut u64,
+    asker: &mut Q,
+    keys: &[Box<dyn Verifier>],
+) -> Result<Option<String>, Unasked>
+    ensures { IfOk result (λ found. IfSome found
+        (λ line. CosignsNote (map (λ v. key v) keys.now) note.now (string_bytes line))) }
+{
+    let checkpoint = match open_checkpoint(alloc, note, log.keys) {
+        Ok(checkpoint) => checkpoint,
+        Err(OpenCheckpointFault::OutOfMemory) => return Err(Unasked::Ask(AskFault::OutOfMemory)),
+        Err(_) => return Ok(None),
+    };
+    if checkpoint.origin.as_str() != log.origin {
+        return Ok(None);
+    }
+    let head = Head {
+        size: checkpoint.size,
+        root: checkpoint.root,
+    };
+    let proposed = Proposed {
+        origin: log.origin,
+        log: log.keys,
+        note,
+        head: &head,
+    };
+    match line_of(alloc, source, &proposed, known, asker, keys) {
+        Ok(line) => Ok(Some(line)),
+        Err(why) => Err(why),
+    }
+}
+
+/// Asks the witness at this place, which has these keys, in each round of the ballot for the line by which it cosigns
+/// the note, until the ballot ends. After a fault it is asked again: once another round opens, or 1 second later, 2, 4,
+/// up to 60, as long as that round is open, or a second later if the ballot is urged. Who waits is told the first fault
+/// of those in a row for one reason, and each of a round that stays open. A note that the log didn't sign is passed
+/// over. It may wait.
+pub fn ask_in_rounds<R: Wait + Clock, S: ResourceSource, Q: AsksWitness>(
+    rt: &R,
+    alloc: Global,
+    ballot: &Ballot,
+    place: usize,
+    source: &S,
+    log: &LogKeys<'_>,
+    asker: &mut Q,
+    keys: &[Box<dyn Verifier>],
+) {
+    let (mut known, mut after) = (0, 0);
+    let mut last: Option<Failure> = None;
+    for _ in rt.forever() {
+        let Some(round) = ballot.next(rt, place, after) else {
+            return;
+        };
+        let (note, urged) = (round.note.as_str(), ballot.urged());
+        match line_by(alloc, source, log, note, &mut known, asker, keys) {
+            Ok(Some(line)) => {
+                ballot.put_line(rt, place, round.number, line);
+                last = None;
+            }
+            Ok(None) => after = round.number.wrapping_add(1),
+            Err(why) => {
+                let failure = next_failure(last, round.number, why);
+                if is_told(last, failure) {
+                    ballot.put_unasked(rt, place, why);
+                }
+                last = Some(failure);
+                if !ballot.pause(rt, round.number, failure.pause, urged) {
+                    return;
+                }
+            }
+        }
+    }
+}
