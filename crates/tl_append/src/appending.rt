@@ -12,10 +12,10 @@ use crate::options::{Batching, Joining};
 use std::alloc::Global;
 use std::io::{Read, Write};
 use tl_archive::Shelf;
-use tl_run::{LogSigner, RunFault};
 use tl_device::Counted;
 use tl_ledger::Ledger;
 use tl_lines::Lines;
+use tl_run::{LogSigner, RunFault};
 
 // Whether what is due waits for the next batch.
 fn waits_for_next(batching: Batching, lines: &Lines<Global>) -> bool {

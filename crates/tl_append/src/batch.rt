@@ -16,8 +16,8 @@ use crate::faults::{unkept, unput};
 use crate::shedding::shed_spent;
 use std::alloc::Global;
 use tl_archive::Shelf;
-use tl_run::{LogSigner, RunFault, sign_checkpoint};
 use tl_ledger::Ledger;
+use tl_run::{LogSigner, RunFault, sign_checkpoint};
 
 /// The most entries of a log.
 pub(crate) const MOST_ENTRIES: u64 = 4_294_967_295;

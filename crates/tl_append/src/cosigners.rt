@@ -6,8 +6,8 @@ ghost use Rattle.tl_append.specs.Cosigning.{HasQuorum};
 use crate::proposal::ProposalStore;
 use std::alloc::Global;
 use tl_client::open_cosigned;
-use tl_run::RunFault;
 use tl_note::Verifier;
+use tl_run::RunFault;
 
 /// Who asks witnesses. Nothing is known of what they answer: they may lie.
 pub trait AsksCosigners {

@@ -18,10 +18,10 @@ use crate::shedding::shed_spent;
 use std::alloc::Global;
 use std::io::Write;
 use tl_archive::Shelf;
-use tl_run::{LogSigner, RunFault, sign_checkpoint};
 use tl_device::Counted;
 use tl_hash::Hash;
 use tl_ledger::Ledger;
+use tl_run::{LogSigner, RunFault, sign_checkpoint};
 
 /// A publication of a log that is due: its entries were put, and its note is signed and isn't on the shelf yet.
 #[derive(Drop)]

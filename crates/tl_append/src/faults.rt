@@ -8,10 +8,10 @@ ghost use Rattle.tl_append.specs.Inner.Faults.{after_ledger, after_mark, after_o
 
 use tl_archive::ShelfFault;
 use tl_checkpoint::OpenCheckpointFault;
-use tl_run::{Place, RunFault};
 use tl_device::DeviceFault;
 use tl_ledger::{LedgerFault, MarkFault, OpenFault};
 use tl_lines::LineFault;
+use tl_run::{Place, RunFault};
 use tl_tile::Resource;
 
 /// What a command ends with where lines were not read.

@@ -6,9 +6,9 @@ ghost use Rattle.tl_append.specs.Running.{AreLogKeys, IsLogKey};
 
 use std::alloc::{AllocError, Allocator, Global};
 use std::fs::Files;
-use tl_run::{LogKey, LogSigner, RunFault, read_file, read_private_key};
 use tl_key::{DemoKey, Note, SignerKey, VerifierKey, demo_key};
 use tl_note::{NoteFault, SignFault, Signer, Verifier};
+use tl_run::{LogKey, LogSigner, RunFault, read_file, read_private_key};
 
 /// The key with which a log signs.
 #[derive(Drop)]

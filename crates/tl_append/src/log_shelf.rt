@@ -3,8 +3,8 @@
 use crate::keys::LogOpeningKey;
 use std::alloc::Global;
 use tl_archive::Shelf;
-use tl_run::{LogSigner, RunFault};
 use tl_ledger::{Found, Ledger};
+use tl_run::{LogSigner, RunFault};
 
 /// A log that was opened.
 #[derive(Drop)]

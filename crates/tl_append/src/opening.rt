@@ -20,10 +20,10 @@ use std::alloc::Global;
 use std::snapshot::Snapshot;
 use tl_archive::Shelf;
 use tl_checkpoint::open_checkpoint;
-use tl_run::{Place, RunFault};
 use tl_device::DeviceFault;
 use tl_ledger::{Found, Ledger, MarkFault, is_named};
 use tl_note::Verifier;
+use tl_run::{Place, RunFault};
 use tl_tile::Resource;
 
 // The number of entries of the checkpoint that a proposal is of, which has to be the log's.

@@ -7,9 +7,9 @@ ghost use Rattle.tl_append.specs.Appending.{head_line};
 use base64::engine::general_purpose::STANDARD;
 use std::alloc::Global;
 use std::io::Write;
-use tl_run::{RunFault, print_text};
 use tl_device::Counted;
 use tl_hash::Hash;
+use tl_run::{RunFault, print_text};
 
 /// Prints the line of a log's size and root, with a space between, the root in base64.
 pub(crate) fn print_head<W: Write>(

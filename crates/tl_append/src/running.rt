@@ -22,10 +22,10 @@ use std::alloc::Global;
 use std::fs::Files;
 use std::io::{Read, Write};
 use tl_archive::Shelf;
-use tl_run::RunFault;
 use tl_device::Counted;
 use tl_ledger::Found;
 use tl_note::is_key_name;
+use tl_run::RunFault;
 
 // Appends to the log on the shelf under these keys.
 fn append_under<S: Shelf, P: ProposalStore, R: Read, W: Write>(

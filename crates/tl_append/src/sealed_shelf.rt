@@ -18,8 +18,8 @@ use crate::sealing::SealsNotes;
 use crate::shedding::shed_spent;
 use std::alloc::Global;
 use tl_archive::Shelf;
-use tl_run::{LogSigner, RunFault, sign_checkpoint};
 use tl_ledger::{Found, Ledger};
+use tl_run::{LogSigner, RunFault, sign_checkpoint};
 
 // The note of the log's checkpoint by the key, as it is shown.
 fn sealed_note<K: LogSigner, P: ProposalStore, Z: SealsNotes>(

@@ -6,8 +6,8 @@ ghost use Rattle.tl_append.specs.Inner.Shedding.{ShedsSpent};
 
 use crate::faults::unkept;
 use tl_archive::Shelf;
-use tl_run::RunFault;
 use tl_ledger::remove_spent;
+use tl_run::RunFault;
 
 /// Removes the partial tiles and bundles that are spent since the log had `from` entries (C2SP tlog-tiles, "Partial
 /// Tiles"), unless they are kept, where the checkpoint of `size` entries is there.

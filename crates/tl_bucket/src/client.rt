@@ -11,8 +11,9 @@ use std::marker::Model;
 use std::net::{Net, TcpStream};
 use std::time::{Clock, Duration, Instant, SystemTime, UNIX_EPOCH};
 use tl_device::{Counted, DeviceFault, Timed};
-use tl_s3::{Bucket, Condition, GetReply, Object, PutReply, get_object, put_object};
-use tl_s3::{Credential, Moment};
+use tl_s3::{
+    Bucket, Condition, Credential, GetReply, Moment, Object, PutReply, get_object, put_object,
+};
 use tl_source::{Url, connect};
 
 // The most time that one request takes.

@@ -35,7 +35,8 @@ impl BucketFault {
             ObjectFault::OutOfMemory | ObjectFault::Get(HttpFault::OutOfMemory) =>
                 DeviceFault::OutOfMemory,
             ObjectFault::BadField | ObjectFault::Get(HttpFault::BadTarget) => DeviceFault::System,
-            ObjectFault::Get(HttpFault::Read | HttpFault::Write) if is_late => DeviceFault::TimedOut,
+            ObjectFault::Get(HttpFault::Read | HttpFault::Write) if is_late =>
+                DeviceFault::TimedOut,
             ObjectFault::Get(HttpFault::Read | HttpFault::Write) => DeviceFault::Broken,
             ObjectFault::Get(HttpFault::NoHead | HttpFault::Version) => DeviceFault::NotHttp,
             ObjectFault::Get(HttpFault::Status(507)) => DeviceFault::Full,

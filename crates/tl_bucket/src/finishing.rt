@@ -23,10 +23,10 @@ use std::fs::Files;
 use std::net::{Net, TcpStream};
 use std::time::Clock;
 use tl_append::{LogKeys, NoProposals, append_batch, keys_of, open_ledger};
-use tl_run::{LogKey, LogSigner, Place, RunFault};
 use tl_folder::CrashOutcome;
 use tl_ledger::{Found, Ledger};
 use tl_note::is_key_name;
+use tl_run::{LogKey, LogSigner, Place, RunFault};
 
 impl<D: CrashOutcome + PutsTogether + Drop, H: Net<Stream = TcpStream> + Clock> BucketShelf<
     '_,

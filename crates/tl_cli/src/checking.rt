@@ -8,8 +8,8 @@ use std::alloc::Global;
 use std::fs::Files;
 use std::io::{Read, Write};
 use tl_command::{CheckOptions, GivenEntry, run_check_opened};
-use tl_run::{RunFault, read_file};
 use tl_device::Counted;
+use tl_run::{RunFault, read_file};
 
 // Checks the proof of the input, about this entry, if one is given, against the checkpoint in a file.
 fn check_in_file<H: Files, R: Read, W: Write>(

@@ -7,9 +7,9 @@ ghost use Rattle.tl_cli.specs.Ending.{by_fetch, by_run, by_witness, command_stat
 
 use std::alloc::{AllocError, AllocFailed};
 use tl_bucket::BucketFault;
-use tl_run::{Place, RunFault, exit_of};
 use tl_device::DeviceFault;
 use tl_fetch::{FetchFault, fetch_exit_of};
+use tl_run::{Place, RunFault, exit_of};
 use tl_serve::WitnessFault;
 
 /// Why a command ends without success.

@@ -23,11 +23,11 @@ use std::random::RandomSource;
 use std::time::Clock;
 use tl_append::{AppendOptions, AsSigned, Joining, NoProposals, SealedShelf, run_append};
 use tl_bucket::{BucketShelf, PutsTogether, finish_log};
-use tl_run::RunFault;
 use tl_device::Counted;
 use tl_folder::CrashOutcome;
 use tl_ledger::Found;
 use tl_note::is_key_name;
+use tl_run::RunFault;
 use tl_serve::{BoundListener, Host, ServeOptions, Served, Site, run_serve_shelf, threads_of};
 
 /// The options of `append`, and of `build`, into a bucket.

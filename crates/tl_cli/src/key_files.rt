@@ -6,9 +6,9 @@ use std::fs::{File, Files, OpenOptions, Permissions, remove_file};
 use std::os::unix::fs::{OpenOptionsExt, PermissionsExt};
 use std::random::RandomSource;
 use tl_command::{KeygenOptions, run_keygen};
-use tl_run::RunFault;
 use tl_device::{Counted, DeviceFault};
 use tl_key::{Cosignature, Note};
+use tl_run::RunFault;
 
 // The mode of the file of a private key, which its owner alone reads, and that of a verifier key.
 const PRIVATE: u32 = 0o600;

@@ -5,8 +5,8 @@ ghost use Rattle.std.specs.Prelude.{◌≡◌, ◌⊎◌};
 use std::alloc::{AllocError, AllocFailed, Global};
 use std::fs::Files;
 use std::io::Write;
-use tl_run::{RunFault, read_file};
 use tl_device::{Counted, write_whole};
+use tl_run::{RunFault, read_file};
 
 /// Why the text of a key isn't read from its file.
 #[derive(Drop)]

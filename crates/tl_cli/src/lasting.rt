@@ -16,12 +16,12 @@ use std::io::{Read, Write};
 use std::net::{Net, TcpListener, TcpStream};
 use std::os::fd::RawFd;
 use tl_append::{AppendOptions, Joining, run_append};
-use tl_run::{Place, RunFault, print_text};
 use tl_device::{Counted, DeviceFault};
 use tl_folder::{CrashOutcome, DurableAppend, LineStream, stream_lines};
 use tl_hash::Sha256Tree;
 use tl_logs::compact_state;
 use tl_note::is_key_name;
+use tl_run::{Place, RunFault, print_text};
 use tl_serve::{
     BoundListener, Host, KnownLogs, ServeOptions, WitnessFault, WitnessOptions, run_serve,
     run_witness,

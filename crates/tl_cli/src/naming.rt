@@ -4,8 +4,8 @@ ghost use Rattle.std.specs.Prelude.{◌≡◌, option_map};
 ghost use Rattle.tl_cli.specs.Named.{address_of, base_of, credentials_of, file_of, key_file, key_option, listed_file, log_of, logs_file, new_key_of, source_of, state_of, text_at, witness_address, witness_file};
 
 use crate::job::Job;
-use tl_run::{LogKey, Place};
 use tl_fetch::Address;
+use tl_run::{LogKey, Place};
 use tl_serve::{KnownLogs, WitnessSignerKey};
 
 // The file of a log's key.

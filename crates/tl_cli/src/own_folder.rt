@@ -6,10 +6,10 @@ ghost use Rattle.tl_cli.specs.Lasting.{IsAt};
 use std::alloc::Global;
 use std::fs::{File, Files};
 use std::marker::Model;
-use tl_run::{Place, RunFault};
 use tl_device::DeviceFault;
 use tl_folder::{CrashOutcome, FolderLock, FolderShelf, has_log, lock_folder};
 use tl_ledger::Found;
+use tl_run::{Place, RunFault};
 
 /// The folder of a log, where no other process works as long as this lasts, and what was read of the log that was found
 /// there. Contracts see the path under which it was locked, and its calls so far.

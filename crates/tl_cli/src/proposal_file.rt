@@ -5,9 +5,9 @@ ghost use Rattle.std.specs.Prelude.{◌≡◌};
 use std::alloc::{AllocError, Global};
 use std::fs::{File, Files, symlink_metadata};
 use tl_append::ProposalStore;
-use tl_run::{Place, RunFault};
 use tl_device::{DeviceFault, read_plain};
 use tl_folder::AtomicFile;
+use tl_run::{Place, RunFault};
 
 // The most bytes of a note.
 const MOST: u64 = 65_536;

@@ -31,14 +31,17 @@ use std::net::{Net, TcpListener, TcpStream};
 use std::random::RandomSource;
 use std::thread::{Threads, available_parallelism};
 use tl_bucket::PutsTogether;
-use tl_command::{BuildOptions, HeadOptions, KeygenOptions, SignedOptions, run_audit, run_build, run_build_signed, run_check, run_consistency, run_head, run_inclusion, run_keygen, run_open};
-use tl_run::{HmacLogSigner, RunFault, read_file};
+use tl_command::{
+    BuildOptions, HeadOptions, KeygenOptions, SignedOptions, run_audit, run_build,
+    run_build_signed, run_check, run_consistency, run_head, run_inclusion, run_keygen, run_open,
+};
 use tl_device::{Counted, write_whole};
 use tl_evidence::run_check_fork;
 use tl_fetch::{run_feed, run_fetch};
 use tl_folder::CrashOutcome;
 use tl_hash::Sha256Tree;
 use tl_key::{Cosignature, Note};
+use tl_run::{HmacLogSigner, RunFault, read_file};
 use tl_serve::Host;
 
 // How many threads hash at once: as many as are asked for, or else as the machine has.

@@ -17,11 +17,11 @@ use std::io::{Read, Write};
 use std::net::{Net, TcpListener, TcpStream};
 use std::os::fd::RawFd;
 use tl_append::{AsSigned, SealedShelf};
-use tl_run::RunFault;
 use tl_device::Counted;
 use tl_folder::{CrashOutcome, FolderShelf};
 use tl_ledger::Found;
 use tl_note::is_key_name;
+use tl_run::RunFault;
 use tl_serve::{
     BoundListener, CosignedLog, Host, ServeOptions, Served, Site, run_serve_cosigned,
     run_serve_shelf, threads_of,

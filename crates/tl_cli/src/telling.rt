@@ -18,9 +18,9 @@ use crate::naming::{
 use std::alloc::{AllocError, Allocator};
 use std::io::Write;
 use tl_bucket::BucketFault;
-use tl_run::{Place, RunFault, fault_line};
 use tl_device::{Counted, DeviceFault, write_whole};
 use tl_fetch::{Address, FetchFault, fetch_fault_line};
+use tl_run::{Place, RunFault, fault_line};
 use tl_serve::WitnessFault;
 use tl_source::place_of;
 use tl_tile::Resource;

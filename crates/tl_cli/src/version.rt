@@ -4,8 +4,8 @@ ghost use Rattle.tl_device.specs.Device.{passage};
 ghost use Rattle.tl_cli.specs.Version.{PrintsText, PrintsVersion};
 
 use std::io::Write;
-use tl_run::{RunFault, print_text};
 use tl_device::Counted;
+use tl_run::{RunFault, print_text};
 
 // The program's version, and the kit that it is proved with. The formats that it reads and writes have versions of
 // their own.

@@ -2,8 +2,8 @@
 
 use std::alloc::Global;
 use tl_command::run_audit;
-use tl_run::RunFault;
 use tl_device::Counted;
+use tl_run::RunFault;
 use tl_testing::SumDigest;
 
 // An audit of two lists whose first two entries are exchanged, and the two nodes of `a` and `b` that have one sum.

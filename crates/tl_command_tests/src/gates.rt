@@ -5,8 +5,8 @@ use std::net::{Net, TcpListener, TcpStream};
 use std::sync::Arc;
 use std::sync::atomic::{AtomicBool, AtomicU64, Ordering};
 use std::thread;
-use tl_run::LogKey;
 use tl_device::Counted;
+use tl_run::LogKey;
 use tl_serve::{Gate, Host, ListenOptions, ServeOptions, serve_gated};
 
 // How often a lane looks for the other.

@@ -4,9 +4,9 @@ use std::alloc::Global;
 use std::io::{self, Error, ErrorKind};
 use std::random::RandomSource;
 use tl_command::run_keygen;
-use tl_run::RunFault;
 use tl_device::Counted;
 use tl_key::Note;
+use tl_run::RunFault;
 
 // A system that gives no random bytes.
 #[derive(Drop)]

@@ -14,9 +14,9 @@ use crate::evidence::is_evidence;
 use std::alloc::{AllocError, Global};
 use std::io::{Read, Write};
 use tl_command::lines_of;
-use tl_run::{MOST_INPUT, RunFault, print_text, read_input, read_log_key};
 use tl_device::Counted;
 use tl_note::Verifier;
+use tl_run::{MOST_INPUT, RunFault, print_text, read_input, read_log_key};
 
 // Reports whether a text is evidence that the log of this name, which signs by these keys, forked.
 fn accuses(

@@ -5,8 +5,8 @@ ghost use Rattle.tl_feed.specs.Refusing.{IsOfAsking};
 
 use crate::asking::ask_witness;
 use crate::fault::AskFault;
-use crate::question::{Question, WitnessAnswer};
 use crate::proposed::{AsksWitness, Proposed};
+use crate::question::{Question, WitnessAnswer};
 use crate::unasked::Unasked;
 use std::alloc::{AllocError, Global};
 use std::net::{Net, TcpStream};

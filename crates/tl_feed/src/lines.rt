@@ -9,9 +9,9 @@ ghost use Rattle.tl_feed.specs.Proposing.{IsSignedBy};
 ghost use Rattle.tl_feed.specs.Refusing.{IsFairlyTold};
 
 use crate::fault::AskFault;
-use crate::question::{Question, WitnessAnswer};
 use crate::growing::growth_from;
 use crate::proposed::{AsksWitness, Proposed};
+use crate::question::{Question, WitnessAnswer};
 use crate::unasked::Unasked;
 use std::alloc::{AllocError, Global};
 use tl_checkpoint::check_cosignature;

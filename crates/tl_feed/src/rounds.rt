@@ -3,10 +3,10 @@
 ghost use Rattle.std.specs.Prelude.{IfOk, IfSome, map, string_bytes};
 ghost use Rattle.tl_feed.specs.Lines.{CosignsNote};
 
-use crate::fault::AskFault;
-use crate::lines::line_of;
 use crate::ballot::Ballot;
 use crate::failing::{Failure, is_told, next_failure};
+use crate::fault::AskFault;
+use crate::lines::line_of;
 use crate::proposed::{AsksWitness, LogKeys, Proposed};
 use crate::unasked::Unasked;
 use std::alloc::Global;

@@ -28,10 +28,10 @@ use std::net::{Net, TcpListener, TcpStream};
 use std::thread::Threads;
 use std::time::{Clock, Duration};
 use tl_client::ResourceSource;
-use tl_run::{Place, RunFault};
 use tl_device::Counted;
 use tl_folder::{AtomicFile, TileCache};
 use tl_note::Verifier;
+use tl_run::{Place, RunFault};
 use tl_source::{
     AnySource, AsksHost, CachedSource, FolderSource, FullSource, HostClient, HttpSource, Lack,
     NamesLack, Requests, Url,

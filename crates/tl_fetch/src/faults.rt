@@ -6,8 +6,8 @@ ghost use Rattle.tl_fetch.specs.Faults.{IsNoAccusation, after_client, after_head
 use crate::fault::FetchFault;
 use tl_client::{ClientFault, HeadFault};
 use tl_command::note_refusal;
-use tl_run::{Place, RunFault};
 use tl_note::NoteFault;
+use tl_run::{Place, RunFault};
 use tl_tile::Resource;
 
 /// That what a source has for the checkpoint is none.

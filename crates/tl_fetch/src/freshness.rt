@@ -13,8 +13,8 @@ use crate::policy::Policy;
 use std::alloc::{AllocError, Global};
 use std::time::{Clock, SystemTime, UNIX_EPOCH};
 use tl_checkpoint::check_cosignature;
-use tl_run::RunFault;
 use tl_note::{NoteFault, SigView, Verifier, parse_note};
+use tl_run::RunFault;
 
 // The seconds since 1970 that the clock reads. If it can't be read, they are the most there are: nothing is fresh then.
 fn seconds_now<H: Clock>(rt: &H) -> u64 {

@@ -20,9 +20,9 @@ use std::alloc::Global;
 use std::io::Write;
 use tl_client::{ClientFault, Head, ResourceSource, Tiles, prove_growth};
 use tl_command::{ConsistencyProof, consistency_bytes};
-use tl_run::{RunFault, print_text};
 use tl_device::Counted;
 use tl_hash::{Hash, Sha256Tree};
+use tl_run::{RunFault, print_text};
 use tl_store::tree_hash;
 use tl_tile::{FetchedTiles, TileHashReader};
 

@@ -17,8 +17,8 @@ use itoa::Buffer;
 use std::alloc::{AllocError, Allocator};
 use std::io::Write;
 use tl_client::{Head, ResourceSource};
-use tl_run::{RunFault, print_text};
 use tl_device::Counted;
+use tl_run::{RunFault, print_text};
 use tl_source::{AsksHost, HostClient, Requests};
 use tl_tile::FetchedTiles;
 

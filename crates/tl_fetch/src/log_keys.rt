@@ -10,9 +10,9 @@ use crate::fault::FetchFault;
 use crate::options::FetchOptions;
 use crate::witnesses::{check_keys, is_same, read_text};
 use std::alloc::Global;
-use tl_run::RunFault;
 use tl_key::{Note, NoteVerifier};
 use tl_note::Verifier;
+use tl_run::RunFault;
 
 /// The keys of a log, one or two.
 #[derive(Drop)]

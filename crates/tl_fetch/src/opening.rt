@@ -15,8 +15,8 @@ use crate::policy::Policy;
 use crate::state::TrustStore;
 use std::alloc::Global;
 use tl_client::{Head, ResourceSource, open_cosigned};
-use tl_run::{Place, RunFault};
 use tl_hash::{Sha256Tree, empty_hash};
+use tl_run::{Place, RunFault};
 use tl_tile::{Resource, SourceFault};
 
 // The text that a source has for the checkpoint. Bytes that are no text are `BadCheckpoint`.

@@ -17,9 +17,9 @@ use std::alloc::{AllocError, Allocator};
 use std::io::Write;
 use tl_client::{Head, ResourceSource, prove_entry};
 use tl_command::{InclusionProof, inclusion_bytes};
-use tl_run::{RunFault, print_text};
 use tl_device::Counted;
 use tl_hash::{Sha256Tree, leaf_hash};
+use tl_run::{RunFault, print_text};
 use tl_text::push_line;
 
 // The lines of a log's name, its size and its root.

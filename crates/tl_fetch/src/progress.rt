@@ -4,8 +4,8 @@ use crate::observer::Observer;
 use std::alloc::{Allocator, Global};
 use std::io::Write;
 use tl_client::Head;
-use tl_run::{RunFault, print_text};
 use tl_device::Counted;
+use tl_run::{RunFault, print_text};
 use tl_tile::FetchedTiles;
 
 /// Standard error, which is told how far the checks are where it is a terminal.

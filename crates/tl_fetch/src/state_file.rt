@@ -8,9 +8,9 @@ use crate::policy::Policy;
 use crate::state::TrustStore;
 use std::alloc::Global;
 use std::fs::{File, Files};
-use tl_run::{Place, RunFault};
 use tl_device::DeviceFault;
 use tl_folder::AtomicFile;
+use tl_run::{Place, RunFault};
 
 // The most bytes of a note.
 const MOST: u64 = 65_536;

@@ -10,10 +10,10 @@ ghost use Rattle.tl_http.specs.Inner.Values.{CopiesValue};
 ghost use Rattle.tl_http.specs.Post.{only_one};
 
 use crate::fault::HttpFault;
+use crate::field_values::{Values, number_in, values_in};
 use crate::growth::append;
 use httparse::spans::HeaderSpan;
 use std::alloc::{AllocError, Allocator};
-use crate::field_values::{Values, number_in, values_in};
 
 // The end of what a length may be.
 const END_OF_LENGTHS: u64 = 1 << 63;

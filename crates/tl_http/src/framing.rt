@@ -21,7 +21,11 @@ pub(crate) enum Framing {
 
 /// How the fields of a head with this minor version frame its body. `Encoded` where a field Transfer-Encoding says more
 /// than `chunked`, or comes with HTTP/1.0; `BadLength` where the length isn't clear.
-pub(crate) fn framing_in(buf: &[u8], headers: &[HeaderSpan], minor: u8) -> Result<Framing, HttpFault>
+pub(crate) fn framing_in(
+    buf: &[u8],
+    headers: &[HeaderSpan],
+    minor: u8,
+) -> Result<Framing, HttpFault>
     requires { All (IsHeaderWithin (length buf.now)) headers.now }
     ensures { FramesBody minor (map (header_bytes buf.now) headers.now) result }
 {

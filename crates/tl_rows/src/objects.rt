@@ -7,8 +7,9 @@ use std::alloc::{AllocError, Global};
 use std::str;
 use tl_device::Counted;
 use tl_http::HttpFault;
-use tl_s3::{Bucket, Condition, GetReply, Object, ObjectFault, PutReply, get_object, put_object};
-use tl_s3::Moment;
+use tl_s3::{
+    Bucket, Condition, GetReply, Moment, Object, ObjectFault, PutReply, get_object, put_object,
+};
 
 // The bucket of the rows.
 const BUCKET: Bucket<'static> = Bucket {

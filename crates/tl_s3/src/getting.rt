@@ -10,10 +10,10 @@ ghost use Rattle.tl_s3.specs.declared.fault.ObjectFault.TheVariants.{OutOfMemory
 ghost use Rattle.tl_s3.specs.CanonicalRequests.{field_of};
 
 use crate::canonical::payload_digest;
-use crate::moment::Moment;
-use crate::request::{Field, Request};
 use crate::fault::ObjectFault;
+use crate::moment::Moment;
 use crate::object::{Bucket, GetAnswer, GetReply};
+use crate::request::{Field, Request};
 use crate::sending::{field, send_signed, target_of};
 use std::alloc::Allocator;
 use std::io::{Read, Write};

@@ -12,11 +12,11 @@ ghost use Rattle.tl_s3.specs.CanonicalRequests as signed;
 ghost use Rattle.tl_s3.specs.CanonicalRequests.{credential_of, request_of};
 
 use crate::credential::Credential;
+use crate::fault::ObjectFault;
 use crate::form::is_canonical;
 use crate::moment::Moment;
 use crate::request::{Field, Request};
 use crate::signing::authorization;
-use crate::fault::ObjectFault;
 use std::alloc::{AllocError, Allocator};
 use std::io::{Read, Write};
 use tl_device::Counted;

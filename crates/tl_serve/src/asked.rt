@@ -7,8 +7,8 @@ ghost use Rattle.tl_serve.specs.Asking.{AreKeysOf};
 
 use crate::options::AskedWitness;
 use std::alloc::{AllocError, Global};
-use tl_run::RunFault;
 use tl_key::{CosignerVerifier, KeyFault, read_verifier_key};
+use tl_run::RunFault;
 use tl_source::Url;
 
 // Returns the verifier key of a witness that this text spells. `BadKey`: it spells none.

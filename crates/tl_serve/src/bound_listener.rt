@@ -8,9 +8,9 @@ use std::io::Write;
 use std::net::{Net, SocketAddr, TcpListener, TcpStream};
 use std::os::fd::RawFd;
 use std::sync::Arc;
-use tl_run::RunFault;
-use tl_feed::Ballot;
 use tl_device::Counted;
+use tl_feed::Ballot;
+use tl_run::RunFault;
 
 /// The bound address of a server. No other process has it while this lasts. Clients that connect
 /// before the server answers wait.

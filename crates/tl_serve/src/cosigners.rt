@@ -11,10 +11,10 @@ use std::thread::{JoinHandle, Scope};
 use std::time::{Clock, Duration};
 use tl_append::{AsksCosigners, ProposalStore};
 use tl_archive::Shelf;
-use tl_run::{RunFault, print_text};
-use tl_feed::{Ballot, BallotEvent, HttpWitness, LogKeys, ShelfReader, Unasked, ask_in_rounds};
 use tl_device::Counted;
+use tl_feed::{Ballot, BallotEvent, HttpWitness, LogKeys, ShelfReader, Unasked, ask_in_rounds};
 use tl_note::Verifier;
+use tl_run::{RunFault, print_text};
 use tl_source::Url;
 
 /// Proposes notes for the threads of a ballot to ask about, waits until enough witnesses have

@@ -11,9 +11,9 @@ use std::snapshot::Snapshot;
 use std::sync::Wait;
 use std::thread::Scope;
 use tl_append::line_fault;
-use tl_run::RunFault;
 use tl_device::Counted;
 use tl_lines::{Lines, NextLine};
+use tl_run::RunFault;
 use tl_sequencer::Submitter;
 
 /// What reading on gave.

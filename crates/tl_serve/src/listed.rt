@@ -11,11 +11,11 @@ use std::fs::{Files, metadata};
 use std::io::{Read, Write};
 use std::net::{Net, TcpListener, TcpStream};
 use std::sync::Arc;
-use tl_run::{MOST_INPUT, RunFault};
 use tl_device::{Counted, DeviceFault, read_plain};
 use tl_logs::{KnownLog, LogsFault, read_logs};
 use tl_note::{Signer, Verifier};
 use tl_proof::Link;
+use tl_run::{MOST_INPUT, RunFault};
 use tl_witness::Trust;
 
 // Reads the logs that the file at this path names.

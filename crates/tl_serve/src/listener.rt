@@ -11,8 +11,8 @@ use std::net::{Net, TcpListener, TcpStream};
 use std::os::fd::AsRawFd;
 use std::sync::atomic::{AtomicBool, AtomicU64, Ordering};
 use std::sync::{Mutex, Wait};
-use tl_run::{RunFault, print_text};
 use tl_device::Counted;
+use tl_run::{RunFault, print_text};
 
 /// The token under which a thread watches the listener. Those of connections are smaller.
 pub(crate) const ACCEPT: Token = Token(usize::MAX);

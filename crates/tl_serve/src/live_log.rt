@@ -6,8 +6,8 @@ ghost use Rattle.tl_serve.specs.Inner.Live.{TakesIn, TakesRest, after_take};
 ghost use Rattle.tl_serve.specs.Inner.Running.{StaysRunning};
 
 use std::alloc::Global;
-use tl_run::RunFault;
 use tl_hash::Head;
+use tl_run::RunFault;
 use tl_sequencer::{Ended, TakeFault};
 
 /// The most entries of a log.

@@ -8,9 +8,9 @@ ghost use Rattle.tl_serve.specs.Inner.Live.{Finishes, Shows, TakesIn, TakesRest}
 use crate::host::Host;
 use crate::live_log::{LiveLog, refusal};
 use std::alloc::Global;
-use tl_run::RunFault;
 use tl_hash::Head;
 use tl_publisher::{BoardReader, Operator, PublishFault, Published, RunningLog};
+use tl_run::RunFault;
 use tl_sequencer::Ended;
 
 /// A log that is published on a board.

@@ -10,10 +10,10 @@ use std::io::Read;
 use tl_append::line_fault;
 use tl_checkpoint::open_checkpoint;
 use tl_command::read_entries;
-use tl_run::{MOST_INPUT, RunFault};
 use tl_device::Counted;
 use tl_lines::{Lines, deal};
 use tl_note::Verifier;
+use tl_run::{MOST_INPUT, RunFault};
 use tl_sequencer::Submitter;
 use tl_tile::{BundleFault, write_bundle};
 

@@ -5,8 +5,8 @@ use crate::submit_queue::SubmitQueue;
 use std::alloc::Global;
 use std::sync::Wait;
 use std::vec::IntoIter;
-use tl_run::RunFault;
 use tl_lines::NextLine;
+use tl_run::RunFault;
 
 /// The entries of a queue, as they are submitted.
 #[derive(Drop)]

@@ -13,9 +13,9 @@ use crate::live_log::LiveLog;
 use crate::telling::{tell_head, tell_input_ended, tell_not_published, tell_too_long};
 use std::alloc::Global;
 use std::io::Write;
-use tl_run::RunFault;
 use tl_device::Counted;
 use tl_loop::{Event, PublishLoop, Step};
+use tl_run::RunFault;
 use tl_sequencer::Ended;
 
 /// What informs the thread that carries out the steps of what happens beside it.

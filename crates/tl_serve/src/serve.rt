@@ -24,11 +24,11 @@ use std::os::fd::RawFd;
 use std::sync::Arc;
 use std::thread::{Threads, available_parallelism};
 use tl_append::{LogKeys, keys_of};
-use tl_run::RunFault;
 use tl_device::Counted;
 use tl_lines::Lines;
 use tl_note::{Signer, Verifier, is_key_name};
 use tl_publisher::{BoardReader, Operator, OperatorFault, Published, ResumeFault};
+use tl_run::RunFault;
 use tl_sequencer::Submitter;
 
 // The most threads that answer: one less than the board may have readers, since one more reports

@@ -27,12 +27,12 @@ use tl_append::{
 };
 use tl_archive::Shelf;
 use tl_checkpoint::have_distinct_names;
-use tl_run::RunFault;
-use tl_feed::Ballot;
 use tl_device::Counted;
+use tl_feed::Ballot;
 use tl_key::CosignerVerifier;
 use tl_ledger::Found;
 use tl_note::Verifier;
+use tl_run::RunFault;
 use tl_source::Url;
 
 /// The shelf of a log whose checkpoints witnesses cosign, and what belongs beside it.

@@ -29,12 +29,12 @@ use std::io::{Read, Write};
 use std::net::{Net, TcpListener, TcpStream};
 use tl_append::{LogKeys, LogOpeningKey, LogShelf, OpenedLog, check_asked, check_start, keys_of};
 use tl_archive::Shelf;
-use tl_run::RunFault;
 use tl_device::Counted;
 use tl_ledger::Found;
 use tl_lines::Lines;
 use tl_loop::PublishLoop;
 use tl_note::is_key_name;
+use tl_run::RunFault;
 use tl_sequencer::{Intake, OpenFault, Submitter};
 
 /// A shelf that is given back, and how its server ended.

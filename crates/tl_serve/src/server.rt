@@ -27,9 +27,9 @@ use std::io::{Read, Write};
 use std::net::{Net, TcpListener, TcpStream};
 use std::os::fd::RawFd;
 use std::sync::Arc;
-use tl_run::RunFault;
 use tl_device::Counted;
 use tl_lines::Lines;
+use tl_run::RunFault;
 
 // The word that is reported before size and root.
 const PUBLISHED: &str = "published ";

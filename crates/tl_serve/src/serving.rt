@@ -23,9 +23,9 @@ use std::io::Write;
 use std::net::{Net, TcpListener, TcpStream};
 use std::thread;
 use std::thread::Scope;
-use tl_run::RunFault;
 use tl_device::Counted;
 use tl_loop::{Event, PublishLoop, Step};
+use tl_run::RunFault;
 
 /// What all threads of a log share.
 #[derive(Drop)]

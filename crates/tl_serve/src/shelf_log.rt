@@ -10,9 +10,9 @@ use crate::live_log::{LiveLog, refusal};
 use std::alloc::Global;
 use std::snapshot::Snapshot;
 use tl_append::{LogShelf, LogSigningKey};
-use tl_run::RunFault;
 use tl_hash::Head;
 use tl_ledger::Ledger;
+use tl_run::RunFault;
 use tl_sequencer::{Ended, Intake};
 
 /// A log on a shelf: its lanes, and the ledger of what is on the shelf. What waits to be put there

@@ -7,8 +7,8 @@ use crate::running::Feed;
 use crate::signals::Signals;
 use std::sync::Wait;
 use std::time::{Clock, Duration, Instant};
-use tl_run::RunFault;
 use tl_loop::Event;
+use tl_run::RunFault;
 
 /// What happens beside the thread that carries out steps, as the other threads signal it, and when
 /// what was taken in has waited long enough for more.

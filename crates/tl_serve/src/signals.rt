@@ -8,9 +8,9 @@ use std::net::Net;
 use std::sync::atomic::{AtomicBool, AtomicU64, Ordering};
 use std::sync::{Arc, Mutex, Wait};
 use std::time::Duration;
-use tl_run::RunFault;
 use tl_feed::Ballot;
 use tl_loop::Event;
+use tl_run::RunFault;
 
 /// What happens beside the thread that carries out steps.
 #[derive(Drop)]

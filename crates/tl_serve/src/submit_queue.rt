@@ -9,9 +9,9 @@ use std::collections::VecDeque;
 use std::net::Net;
 use std::sync::atomic::{AtomicU64, Ordering};
 use std::sync::{Arc, Mutex, Wait};
-use tl_run::{Place, RunFault};
 use tl_device::DeviceFault;
 use tl_hash::{Hash, Sha256Tree, leaf_hash};
+use tl_run::{Place, RunFault};
 use tl_tile::{Resource, bundle_width};
 
 // What was submitted: the entries that are still to be sent to the log, and the receipts of all

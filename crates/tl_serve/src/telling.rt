@@ -7,9 +7,9 @@ ghost use Rattle.tl_serve.specs.Inner.Telling.{Tells, told_closed, told_head, to
 use base64::engine::general_purpose::STANDARD;
 use std::alloc::Global;
 use std::io::{ErrorKind, Write};
-use tl_run::{RunFault, print_text};
 use tl_device::Counted;
 use tl_hash::Head;
+use tl_run::{RunFault, print_text};
 
 // The report on a log that is in memory alone.
 const IN_MEMORY: &str =

@@ -20,13 +20,13 @@ use std::alloc::{AllocError, Global};
 use std::fs::Files;
 use std::io::{Read, Write};
 use std::net::{Net, TcpListener, TcpStream};
-use tl_run::{MOST_INPUT, RunFault, read_file, read_input, read_log_key, read_private_key};
 use tl_device::Counted;
 use tl_hash::Sha256Tree;
 use tl_key::{Cosignature, DemoKey, Note, VerifierKey, demo_key};
 use tl_logs::{KnownLog, read_state, whole_chains};
 use tl_note::{NoteFault, Signer, Verifier, is_key_name};
 use tl_proof::Link;
+use tl_run::{MOST_INPUT, RunFault, read_file, read_input, read_log_key, read_private_key};
 use tl_witness::{Book, BookFault, ChainFault, SharedWitness, Trust, read_chain};
 
 /// Reads the chains of the reader's state, each in one link: those of these logs, or of all.

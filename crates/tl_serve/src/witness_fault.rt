@@ -4,9 +4,9 @@ ghost use Rattle.std.specs.Prelude.{◌≡◌};
 ghost use Rattle.tl_serve.specs.Knowing.{by_state, by_witness};
 
 use std::alloc::{AllocError, AllocFailed};
-use tl_run::RunFault;
 use tl_device::DeviceFault;
 use tl_logs::{LogsFault, StateFault};
+use tl_run::RunFault;
 
 /// Why a witness ends without success.
 #[derive(Clone, Copy, Debug, PartialEq, Eq)]

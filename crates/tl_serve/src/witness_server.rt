@@ -18,9 +18,9 @@ use std::sync::Wait;
 use std::thread;
 use std::thread::Scope;
 use std::time::{Clock, SystemTime, UNIX_EPOCH};
-use tl_run::RunFault;
 use tl_device::Counted;
 use tl_loop::Event;
+use tl_run::RunFault;
 use tl_server::{Outcome, ServeFault, Submits, Witness, serve_witness};
 
 // What requests to a witness are answered from.

@@ -9,10 +9,10 @@ ghost use Rattle.tl_serve.specs.Inner.Saving.{link_lines, link_of};
 use std::alloc::{AllocError, Allocator, Global};
 use std::io::Write;
 use std::marker::Model;
-use tl_run::print_text;
 use tl_device::Counted;
 use tl_hash::Hash;
 use tl_proof::Link;
+use tl_run::print_text;
 use tl_witness::{SaveFault, write_chain_line};
 
 /// The line of a link of an origin (docs/FORMATS.md, "Saved links"). Contracts see the origin and the step.

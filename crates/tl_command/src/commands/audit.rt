@@ -16,7 +16,7 @@ use std::io::{Read, Write};
 use tl_device::Counted;
 use tl_hash::TreeHash;
 use tl_proof::{AuditFault, Verdict, audit_tree};
-use tl_run::{RunFault, MOST_INPUT, print_text, read_input};
+use tl_run::{MOST_INPUT, RunFault, print_text, read_input};
 
 // What is printed of an audit, and whether the answer is yes.
 #[derive(Drop)]

@@ -15,7 +15,7 @@ use std::io::{Read, Write};
 use tl_device::Counted;
 use tl_hash::{Hash, Sha256Tree, leaf_hash};
 use tl_proof::{check_record, check_tree};
-use tl_run::{RunFault, MOST_INPUT, print_text, read_input};
+use tl_run::{MOST_INPUT, RunFault, print_text, read_input};
 
 // What the text of a proof says, and whether the proof is accepted.
 #[derive(Clone, Copy)]

@@ -18,7 +18,7 @@ use tl_checkpoint::{check_cosignature, cosign_message};
 use tl_device::Counted;
 use tl_key::{CosignerVerifier, KeyFault, read_verifier_key};
 use tl_note::{SigView, Verifier, parse_note};
-use tl_run::{RunFault, MOST_INPUT, print_text, read_input};
+use tl_run::{MOST_INPUT, RunFault, print_text, read_input};
 
 // What the lines of a note are to a key.
 #[derive(Clone, Copy)]

@@ -13,7 +13,7 @@ use std::io::{Read, Write};
 use std::str;
 use tl_device::Counted;
 use tl_note::{NoteFault, Verifier, open_note};
-use tl_run::{RunFault, MOST_INPUT, print_text, read_input, read_log_key};
+use tl_run::{MOST_INPUT, RunFault, print_text, read_input, read_log_key};
 
 /// Why a note doesn't open, as a fault of a command: `WrongSignature` has the place of the line, counted from 0; what
 /// is no note is `Malformed`.

@@ -18,7 +18,7 @@ use std::alloc::Allocator;
 use std::io::{Read, Write};
 use std::thread::Threads;
 use tl_device::Counted;
-use tl_run::{RunFault, MOST_INPUT, print_text, read_input};
+use tl_run::{MOST_INPUT, RunFault, print_text, read_input};
 
 /// Reads the whole input and writes the text of the inclusion proof (RFC 6962, section 2.1.1) of the line at `index`,
 /// counted from 0, in the tree of all its lines under SHA-256. An index that isn't below the number of lines is

@@ -14,7 +14,7 @@ use std::io::Read;
 use std::thread::Threads;
 use tl_device::Counted;
 use tl_hash::Sha256Tree;
-use tl_run::{RunFault, MOST_INPUT};
+use tl_run::{MOST_INPUT, RunFault};
 use tl_tile::Edge;
 
 // How many bytes of the input are kept at once, 1 MiB.

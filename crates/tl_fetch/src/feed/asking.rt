@@ -6,8 +6,8 @@ ghost use Rattle.tl_fetch.specs.Trusting.{IsNoteOf, alone, policy_of};
 use crate::policy::Policy;
 use std::alloc::Global;
 use tl_client::{Head, ResourceSource};
-use tl_feed::{AsksWitness, Proposed, Unasked, line_of};
 use tl_device::DeviceFault;
+use tl_feed::{AsksWitness, Proposed, Unasked, line_of};
 use tl_note::Verifier;
 
 /// Who asks the witnesses of a policy, and is told why one gave no cosignature. Their places are counted from 0, and keys

@@ -21,9 +21,9 @@ use crate::state::TrustStore;
 use std::alloc::{AllocError, Global};
 use std::io::Write;
 use tl_client::{Head, ResourceSource};
-use tl_run::{RunFault, print_text};
 use tl_device::Counted;
 use tl_note::Verifier;
+use tl_run::{RunFault, print_text};
 
 // Whether two keys are of one witness: they have one name.
 fn are_one(one: &Box<dyn Verifier>, other: &Box<dyn Verifier>) -> bool

@@ -12,9 +12,9 @@ use std::alloc::Global;
 use std::io::Write;
 use std::net::{Net, TcpStream};
 use std::time::{Clock, Duration};
-use tl_run::{RunFault, print_text};
-use tl_feed::{HttpWitness, Unasked};
 use tl_device::Counted;
+use tl_feed::{HttpWitness, Unasked};
+use tl_run::{RunFault, print_text};
 use tl_source::Url;
 
 // The address that the text at this place is, if it is one over HTTP.
