@@ -67,7 +67,7 @@ joined_running log g h k p is next size join =
       growth = subst (λ (es : List (List ℕ)). IsGrown sha256 (last_size p.past.log) es k) (seam ∙ sym (take_all k.edge.size E (omega (arith, whole)))) made;
     }
 
--- the same where memory may be refused
+-- the same if allocation may fail
 pub joins_running : {X E A : Type 0} (r : Result X E) (log : Log A) (g h k : Grown) (p : Board) → IsRunning log g p → IsGrown sha256 g.edge.size (entries_of log) h → OnOk r (k.edge.size ≡ h.edge.size)
     → ((start : ℕ) (entries more : List (List ℕ)) → IsGrown sha256 start entries g → IsGrown sha256 (length entries) (entries ++ more) h → OnOk r (IsGrown sha256 start (entries ++ more) k))
     → OnErr r (k ≡ g) → IsRunning log k p

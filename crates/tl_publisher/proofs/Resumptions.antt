@@ -149,7 +149,7 @@ read_whole bundles size place base count all is =
       record { short = is.short; count = count ∙ ap bundle_count (sym len); each = λ i less. is.each i (omega (arith, less, all)) },
     )
 
--- ---- what is refused
+-- ---- faults
 
 -- bytes that leave a bundle aren't one
 pub bundle_refused : (A : Type 0) (bundles : List (List ℕ)) (size place : ℕ) (bytes : List ℕ) (fault : BundleFault) → place < length bundles → slice_index_or bundles place [] ≡ bytes → ReadsBundle {A = A} bytes (bundle_width size place) (Err fault)
@@ -183,12 +183,12 @@ pub true_of_not : (b : Bool) → false ≡ not b → b ≡ true
 true_of_not true is = refl
 true_of_not false is = absurd (cc)
 
--- a fault that is handed on
+-- a fault that a caller returns
 pub err_passes : {T F : Type 0} (P : F → Type 0) (given : F) (r : Result T F) → IsErrAnd r (λ fault. fault ≡ given) → P given → IfErr r P
 err_passes P given (Ok x) same is = tt
 err_passes P given (Err fault) same is = subst P (sym same) is
 
--- what is wrong however the log is opened isn't want of memory
+-- a fault that applies however the log is opened isn't `OutOfMemory`
 pub not_memory : (origin : List ℕ) (signers : List SigningKey) (readers : ℕ) (fault : OperatorFault) → ((lanes capacity limit : ℕ) → OpenRefusesOperator origin signers lanes capacity limit readers fault) → fault ≡ operator.OutOfMemory → ⊥
 not_memory origin signers readers fault wrong same =
     (let is = subst (OpenRefusesOperator origin signers 0 0 0 readers) same (wrong 0 0 0) in omega (arith, is.1.0))
