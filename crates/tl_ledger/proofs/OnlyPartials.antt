@@ -70,7 +70,7 @@ div_le a b u some less = le-div (a / u) b u some (omega (arith, div-mul-le_self 
 power_256 : (k : ℕ) → 0 < 256 ^ k
 power_256 k = omega (arith, pow_pos (8 * k), tile_height k)
 
--- so many levels above a place of a partial tile there is no hash
+-- this many levels above the position of a partial tile there is no hash
 above_none : (size level place up : ℕ) → base size level ≤ place → level_count size (level + up + 1) ≤ place / 256 ^ (up + 1)
 above_none size level place up low =
     let u : ℕ = 256 ^ up in

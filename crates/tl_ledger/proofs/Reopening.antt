@@ -288,7 +288,7 @@ opens_some keys found head ledger is signed restores = record {
   stands = λ log is_log. restores.stands log (subst (λ (h : Option Head). IsLogOf sha256 h log) is is_log);
 }
 
--- ---- where the shelf is whole
+-- ---- if the shelf has all that the log needs
 
 pub whole_tiles : (items : List Item) (held : Held) (size : ℕ) (fetched : List (Tile × Bytes)) (log : List Bytes) → size < 2 ^ 32 → AreThere held items → length log ≡ size → HasAll sha256 log held
     → AreAnswers (λ t text. Contains items (resource.Tile t, text)) size fetched → AreHonest sha256 (tiles_of fetched) log
