@@ -1,4 +1,4 @@
--- What is decided of a body, by where it leads.
+-- What is decided of a body, by what it is.
 use Rattle.std.proofs.Common.{◌≡◌, ◌<◌, ℕ, List, Some, ap, subst, ◌∙◌, map, length, slice_get, get_or, arith, inl, inr}
 use Rattle.std.specs.Prelude.{slice_set}
 use Rattle.std.proofs.lemmas.Option.{slice_get_within}

@@ -53,7 +53,7 @@ module _ {A : Type 0} (view : A → SavedChain) (xs : List A) (index : Index) (o
   pub known_within : (place : ℕ) → Some place ≡ index origin → place < length xs
   known_within place found = let within = slice_get_within (map (λ (x : A). (view x).origin) xs) place origin (known_there place found) in omega (arith, within, length-map xs (λ (x : A). (view x).origin))
 
-  -- where it gives none, none is
+  -- if the index gives none, there is none
   pub unknown_there : None ≡ index origin → (place : ℕ) → slice_get (map (λ (x : A). (view x).origin) xs) place ≢ Some origin
   unknown_there none place there = is.absent origin place (sym none) (ap (λ (os : List (List ℕ)). slice_get os place) (sym named_so) ∙ there)
 

@@ -118,17 +118,17 @@ come_break H f xs i size root x lt is come breaks = record {
   breaks = λ follows. breaks (rw (← come.size_is, ← come.root_is) (subst (λ (l : List Step). Follows H (last_head (first_head H) l) (f x)) (take-map f i xs) follows));
 }
 
--- what a call ensures where a test finds no error
+-- what a call ensures if a test finds no error
 pub unless_err : {T E : Type 0} (r : Result T E) (Fact : Type 0) → false ≡ is_err r → OnOk r Fact → Fact
 unless_err (Ok x) Fact test fact = fact
 unless_err (Err y) Fact test fact = absurd cc
 
--- what is so holds where there is an error
+-- what holds if there is an error
 pub at_err : {T E : Type 0} (r : Result T E) (Fact : Type 0) → Fact → OnErr r Fact
 at_err (Ok x) Fact fact = tt
 at_err (Err y) Fact fact = fact
 
--- no step is last where there is none
+-- there is no last step if there is none
 pub last_head-none : {A : Type 0} (f : A → Step) (old : TreeHead) (xs : List A) → None ≡ slice_get xs (length xs - 1) → last_head old (map f xs) ≡ old
 last_head-none f old [] none = refl
 last_head-none f old (x ∷ xs) none =

@@ -17,7 +17,7 @@ among_none [] x none is = is
 among_none (y ∷ xs) x none (inl same) = none 0 (ap (λ (z : _). Some z) same)
 among_none (y ∷ xs) x none (inr later) = among_none xs x (λ i. none (suc i)) later
 
--- what is left, where this one stands first
+-- what is left if this one is the first
 pub left_from : {A : Type 0} (xs : List A) (i : ℕ) (x : A) → i < length xs → x ≡ get_or xs i x → drop i xs ≡ x ∷ drop (i + 1) xs
 left_from xs i x lt is =
     let next : suc i ≡ i + 1 = omega arith in

@@ -38,7 +38,7 @@ copied_more f h xs i x copies now copy lt is so_far same pushed =
     ∙ (ap (λ (t : List _). t ++ h copy ∷ []) so_far
     ∙ (ap (λ (y : _). map f (take i xs) ++ y ∷ []) (same ∙ ap f is) ∙ sym (map_more f xs i x lt))))
 
--- there is one of them where one is left
+-- if one of them is left, there is one
 pub some_left : {E Y : Type 0} (f : E → Y) (done left now : List E) (one : E) (all : List E) → left ≡ one ∷ now → map f done ++ map f left ≡ map f all → 0 < length all
 some_left f done left now one all next so_far =
     let whole : map f done ++ f one ∷ map f now ≡ map f all = ap (λ (t : List _). map f done ++ map f t) (sym next) ∙ so_far in
