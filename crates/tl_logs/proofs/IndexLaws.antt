@@ -92,7 +92,7 @@ module _ {A : Type 0} (view : A → Log) (xs : List A) (index : Index) (origin :
   pub known_within : (place : ℕ) → Some place ≡ index origin → place < length xs
   known_within place found = let within = slice_get_within (map (λ (x : A). (view x).origin) xs) place origin (known_there place found) in omega (arith, within, length-map xs (λ (x : A). (view x).origin))
 
-  -- where it gives none, none is
+  -- if the index gives none, there is none
   pub unknown_there : None ≡ index origin → (place : ℕ) → slice_get (log_origins (map view xs)) place ≢ Some origin
   unknown_there none place there = is.absent origin place (sym none) there
 

@@ -57,7 +57,7 @@ stands_at f [] i y there = absurd (cc)
 stands_at f (x ∷ xs) zero y there = let e : f x ≡ y = cc in (x, refl, e)
 stands_at f (x ∷ xs) (suc i) y there = stands_at f xs i y there
 
--- what is read where something shows, shows so
+-- what is read at a position shows what the position shows
 pub named_at : {A B : Type 0} (f : A → B) (xs : List A) (i : ℕ) (y : B) (x : A) → slice_get (map f xs) i ≡ Some y → x ≡ slice_index_or xs i x → f x ≡ y
 named_at f xs i y x shows read =
     let it = stands_at f xs i y shows in
@@ -70,7 +70,7 @@ named_at f xs i y x shows read =
 pub among_here : {A B : Type 0} (f : A → B) (xs : List A) (i : ℕ) (x : A) (y : B) → i < length xs → x ≡ slice_index_or xs i x → f x ≡ y → IsAmong y (map f xs)
 among_here f xs i x y within read shown = among_at (map f xs) i y (shows_at f xs (length xs) i x y refl within read shown)
 
--- and it isn't among one more, where the next differs
+-- if the next one differs, it isn't among one more
 pub apart_more : {A B : Type 0} (f : A → B) (xs : List A) (i : ℕ) (x : A) (y : B) → i < length xs → x ≡ slice_index_or xs i x → ¬ (f x ≡ y)
     → ¬ (IsAmong y (map f (take i xs))) → ¬ (IsAmong y (map f (take (i + 1) xs)))
 apart_more f xs i x y within read differs apart among =

@@ -34,7 +34,7 @@ pub placed_new : {A : Type 0} (view : A → Log) (xs : List A) (k : LogKey) (new
     → view new ≡ log k.origin (k.key ∷ []) → PutsKey k (map view xs) (map view (xs ++ new ∷ []))
 placed_new view xs k new none made = inr (none, map-append view xs (new ∷ []) ∙ ap (λ (c : Log). map view xs ++ c ∷ []) made)
 
--- the index goes on where a key came
+-- the index still fits after a key was added
 pub indexed_after : (index : Index) (k : LogKey) (old new : List Log) (place : ℕ) (result : Result (Unit {0}) LineFault) → Indexes index (log_origins old) → Some place ≡ index k.origin
     → PlacesKey k old new result → OnOk result (Indexes index (log_origins new))
 indexed_after index k old new place (Ok done) is found puts = indexed_known index k old new place is found puts
