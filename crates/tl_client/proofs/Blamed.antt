@@ -119,7 +119,7 @@ not_among (f ∷ more) (b ∷ before) after t none are =
       | inr differ ↦ not_among more before after t (rw differ at none) cc
     ]
 
--- so where they passed all checks, it is a full tile, and the one above it is among them
+-- so if they passed all checks, it is a full tile, and the one above it is among them
 kept_next : (size : ℕ) (root : List ℕ) (kept again : List (Tile × List ℕ)) (t : Tile) → AreVerified sha256 size root kept
     → AreAnswers (λ t text. tiles_of kept t ≡ Some text) size again → tiles_of kept t ≡ None → ComesNext sha256 size root again t
     → IsNextFull sha256 size root kept t
