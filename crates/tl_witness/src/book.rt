@@ -44,11 +44,11 @@ impl<T: TreeHash, A: Allocator + Copy> Shown for Book<T, A> {
 }
 
 impl<T: TreeHash, A: Allocator + Copy> Book<T, A> {
-    /// Decides an add-checkpoint request at `time`, in seconds since the Unix epoch (C2SP tlog-witness,
-    /// "add-checkpoint"). The first case that applies is the status: 400 for no request or no checkpoint; 404 for an
-    /// unknown origin; 403 if the note doesn't open with its verifiers; 400 if the old size exceeds the new; 409 with
-    /// the last size if the old size, or the root at an equal size, differs; 422 if the proof isn't accepted; 500
-    /// without signature or save; else 200 with a cosignature line. It fails if allocation fails.
+    /// Decides an add-checkpoint request at `time`, in Unix seconds (C2SP tlog-witness, "add-checkpoint"). The first
+    /// case that applies is the status: 400 for no request or no checkpoint; 404 for an unknown origin; 403 if the
+    /// note doesn't open with its verifiers; 400 if the old size exceeds the new; 409 with the last size if the old
+    /// size, or the root at an equal size, differs; 422 if the proof isn't accepted; 500 without signature or save;
+    /// else 200 with a cosignature line. It fails if memory runs out.
     pub fn try_add<S: Saver>(
         &mut self,
         body: &[u8],
