@@ -74,8 +74,7 @@ fn read_counting<T: TreeHash, A: Allocator + Copy, R: Read>(
 /// Returns the head that the saved links of each origin lead to, in the order of the first lines: of the origins of
 /// these logs, or of all if `logs` is `None`. Reads the lines one by one, and checks each that counts against the one
 /// before of its origin. The error has the first line that is wrong. The last line must end with a newline. Only one
-/// line and the heads are in memory. The time grows with the number of bytes and the logarithm of the number of
-/// origins.
+/// line and the heads are in memory. The time grows with the bytes and the logarithm of the number of origins.
 pub fn read_state<T: TreeHash, A: Allocator + Copy, R: Read>(
     alloc: A,
     tree: T,
