@@ -70,7 +70,7 @@ moved_other from to q a b disk not_from not_to = put_other to q b (put from a di
 third : {A : Type 0} (b c : Bool) (x y z : A) → b ≡ false → c ≡ false → (if b then x else (if c then y else z)) ≡ z
 third b c x y z first second = ap (λ (v : Bool). if v then x else (if c then y else z)) first ∙ ap (λ (v : Bool). if v then y else z) second
 
--- what is in neither of two folders stays where one is moved to the other
+-- what is in neither of two folders stays when one is moved to the other
 pub away_other : (from to q : Path) (disk : Disk) → is_within from q ≡ false → is_within to q ≡ false → after (step.MoveAway from to) disk q ≡ disk q
 away_other from to q disk not_from not_to = third (is_within to q) (is_within from q) moved_in (record { there = None; older = [] }) (disk q) not_to not_from
 
