@@ -1,4 +1,4 @@
--- A growth that goes on from another.
+-- A growth that continues another.
 use Rattle.std.proofs.Common.{◌≡◌, ℕ, ◌+◌, ◌-◌, ◌≤◌, List, [], ◌++◌, length, take, drop, sym, ap, subst, ◌∙◌, arith}
 use Rattle.std.specs.Prelude.{Result, Ok, Err, OnOk, OnErr}
 use Rattle.std.proofs.lemmas.List.{length-append, take_all, take-append-drop, length-take-le}
@@ -13,7 +13,7 @@ use Rattle.tl_publisher.specs.Grown.{Grown, texts_of, IsGrown}
 use Rattle.tl_publisher.specs.Running.{IsRunning}
 use Rattle.tl_publisher.proofs.Nexts.{filled_stays, filled_more}
 
--- nothing waits yet of what goes on from here
+-- nothing waits yet in a growth that continues this one
 pub grown_forked : (H : List ℕ → List ℕ) (start : ℕ) (entries : List (List ℕ)) (g : Grown) (edge : EdgeContents) (bundle : List ℕ) (waiting : List (List (List ℕ))) → IsGrown H start entries g → edge.size ≡ g.edge.size → edge.kept ≡ g.edge.kept → bundle ≡ g.bundle → waiting ≡ []
     → IsGrown H (length entries) entries (record { edge = edge; bundle = bundle; waiting = waiting })
 grown_forked H start entries g edge bundle waiting is size kept same none_waits = record {

@@ -33,7 +33,7 @@ use Rattle.tl_publisher.proofs.Nexts.{follows_growing}
 use Rattle.tl_publisher.proofs.Notes.{next_of}
 use Rattle.tl_publisher.proofs.Encoded.{all_encoded}
 
--- a note that nobody had to cosign is one for each quorum of none
+-- a note that nobody had to cosign is one for each quorum that needs nobody
 lone_note : (keys : List SigningKey) (q : Quorum) (text bytes : List ℕ) → q.need ≡ 0 → IsSignedNote keys no_quorum text bytes → IsSignedNote keys q text bytes
 lone_note keys q text bytes free is = record {
   own = is.own;

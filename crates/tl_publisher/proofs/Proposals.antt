@@ -118,7 +118,7 @@ pub passes : {T F : Type 0} (P : Result T F → Type 0) (given : F) (r : Result 
 passes P given (Ok x) same is = absurd same
 passes P given (Err fault) same is = subst (λ (f : _). P (Err f)) (sym same) is
 
--- what stays is said of each fault
+-- what doesn't depend on the fault holds for each
 pub same_err : {T F : Type 0} (r : Result T F) (P : Type 0) → P → IfErr r (λ _. P)
 same_err (Ok x) P is = tt
 same_err (Err fault) P is = is

@@ -24,7 +24,7 @@ use tl_hash::Head;
 use tl_sequencer::{Complete, EndRefused, Ended, Incomplete, Sequencer, TakeFault};
 
 /// A log, the growth of its tiles, and the board that shows it. Contracts see the log, how many of its entries the
-/// growth has taken in, and the history of publications.
+/// growth has, and the history of publications.
 #[derive(Drop)]
 pub(crate) struct Run<R: Wait + Drop> {
     log: Sequencer<Global, Global>,
