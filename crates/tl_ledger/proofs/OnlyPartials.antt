@@ -21,7 +21,7 @@ all_mapped P g a zero f = All-nil P
 all_mapped P g a (suc n) f =
     All-cons P (g a) (map g (range_with_len (a + 1) n)) (f a (omega arith) (omega arith)) (all_mapped P g (a + 1) n (λ p low high. f p (omega (arith, low)) (omega (arith, high))))
 
--- what holds of the number of each place of the partial tiles
+-- what holds of the stored index of each hash of the partial tiles
 pub all_numbers : (P : ℕ → Type 0) (size k : ℕ) → ((level place : ℕ) → level < k → base size level ≤ place → place < level_count size level → P (stored_index (8 * level) place)) → All P (numbers_below size k)
 unfolding numbers_below
 all_numbers P size zero f = All-nil P
