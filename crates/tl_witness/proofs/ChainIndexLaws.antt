@@ -44,7 +44,7 @@ module _ {A : Type 0} (view : A → SavedChain) (xs : List A) (index : Index) (o
   named_so : map (λ (x : A). (view x).origin) xs ≡ chain_origins (map view xs)
   named_so = shown_twice view (λ (c : SavedChain). c.origin) (λ (x : A). (view x).origin) xs (λ x. refl)
 
-  -- the place that the index gives is one of this origin
+  -- the position that the index gives has this origin
   pub known_there : (place : ℕ) → Some place ≡ index origin → slice_get (map (λ (x : A). (view x).origin) xs) place ≡ Some origin
   known_there place found =
       let there : slice_get (chain_origins (map view xs)) place ≡ Some origin = is.found origin place (sym found) in

@@ -1,4 +1,4 @@
--- Laws of the chains that lines say, as one line more comes behind them.
+-- Laws of the chains that lines state, when one line more follows.
 use Rattle.std.proofs.Common.{◌≡◌, ◌≢◌, ℕ, zero, suc, Bool, true, false, List, [], ◌∷◌, ◌++◌, map, refl, sym, ap, subst, ◌∙◌, cond, inl, inr, Some}
 use Rattle.std.specs.Prelude.{◌||◌, not, bytes_eq, filter, slice_get, slice_set}
 use Rattle.std.specs.List.{list_any}

@@ -1,4 +1,4 @@
--- Laws of places of a book, which is seen through a view of what stands there.
+-- Laws of positions in a book, which is seen through a view of its elements.
 use Rattle.std.proofs.Common.{◌≡◌, ◌≢◌, ℕ, zero, suc, ◌+◌, ◌<◌, ◌≤◌, List, [], ◌∷◌, Some, refl, sym, ap, ◌∙◌, map, length, slice_get, slice_index_or, arith, ◌⊎◌, inl, inr}
 use Rattle.std.proofs.lemmas.Option.{slice_get-map, slice_get_read, slice_get_within, get_or_from_slice_get}
 use Rattle.std.proofs.lemmas.List.{length-map}
@@ -6,13 +6,13 @@ use Rattle.std.specs.Option.{option_map}
 use Rattle.tl_witness.specs.Witnessed.{Witnessed}
 use Rattle.tl_witness.specs.Book.{Placed, IsPlacedIn}
 
--- what is read at a place shows there
+-- what is read at a position shows there
 pub shows_at : {A B : Type 0} (f : A → B) (xs : List A) (n i : ℕ) (x : A) (y : B)
     → n ≡ length xs → i < n → x ≡ slice_index_or xs i x → f x ≡ y → slice_get (map f xs) i ≡ Some y
 shows_at f xs n i x y whole within read shown =
     slice_get-map f xs i ∙ (ap (option_map f) (slice_get_read xs n i x whole within read) ∙ ap Some shown)
 
--- what shows at a place stands there
+-- what shows at a position is there
 pub stands_at : {A B : Type 0} (f : A → B) (xs : List A) (i : ℕ) (y : B)
     → slice_get (map f xs) i ≡ Some y → (x : A) × (slice_get xs i ≡ Some x) × (f x ≡ y)
 stands_at f [] i y there = absurd (cc)
@@ -43,7 +43,7 @@ nowhere f xs n i y whole past below j there =
     let long = length-map xs f in
     below j (omega arith) there
 
--- no place is of an origin that shows nowhere
+-- no position has an origin that shows nowhere
 pub no_place : {A : Type 0} (states : List A) (view : A → Witnessed) (origin_of : A → List ℕ) (origin : List ℕ)
     → ((k : A) → (view k).origin ≡ origin_of k)
     → ((i : ℕ) → slice_get (map origin_of states) i ≢ Some origin) → (placed : Placed) → ¬ (IsPlacedIn (map view states) origin placed)

@@ -92,6 +92,6 @@ all_read bytes saved count [] read none = record {
 }
 all_read bytes saved count (b ∷ left) read none = absurd (let zero : length (b ∷ left) ≡ 0 = eqb-true (length (b ∷ left)) 0 (sym none) in omega (arith, zero))
 
--- less is left behind a line
+-- after a line less is left
 pub less_left : (left words rest : List ℕ) → left ≡ words ++ 10 ∷ rest → length rest < length left
 less_left left words rest cut = omega (arith, ap length cut, length-append words (10 ∷ rest))
