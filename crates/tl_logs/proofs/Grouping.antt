@@ -1,4 +1,4 @@
--- Laws of the logs that keys are of, as one key more comes behind them.
+-- Laws of the logs that keys belong to, when one key more follows.
 use Rattle.std.proofs.Common.{◌≡◌, ◌≢◌, ℕ, zero, suc, Bool, true, false, List, [], ◌∷◌, ◌++◌, map, refl, sym, ap, subst, ◌∙◌, cond, inl, inr, Some, All, get_or}
 use Rattle.std.specs.Prelude.{◌||◌, not, bytes_eq, filter, slice_get, slice_set}
 use Rattle.std.specs.List.{list_any}
@@ -179,7 +179,7 @@ origins_of_logs : (given : List LogKey) (os : List (List ℕ)) → log_origins (
 origins_of_logs given [] = refl
 origins_of_logs given (o ∷ os) = ap (λ (t : List (List ℕ)). o ∷ t) (origins_of_logs given os)
 
--- a key that is put makes the logs of one key more
+-- a key that is added makes the logs those of one key more
 pub puts_more : (given : List LogKey) (l : LogKey) (new : List Log) → Grouped given → PutsKey l (logs given) new
     → new ≡ logs (given ++ l ∷ [])
 puts_more given l new is (inl (place, before, there, apart, now)) =
@@ -205,7 +205,7 @@ puts_more given l new is (inr (none, now)) =
 
 -- ---- keys that come twice
 
--- the keys that stand at a place are those of the log
+-- the keys at a position are those of the log
 at_place : (given : List LogKey) (place : ℕ) (origin : List ℕ) (before : List PublicKey) → slice_get (logs given) place ≡ Some (log origin before) → keys_of origin given ≡ before
 at_place given place origin before there =
     let at = stands_at (log_of given) (origins given) place (log origin before) there in
@@ -230,7 +230,7 @@ once_one : (origin : List ℕ) (key : PublicKey) → HasEachOnce (log origin (ke
 once_one origin key (inl none) = none
 once_one origin key (inr none) = none
 
--- a key that is put comes to no log twice
+-- a key that is added is in no log twice
 pub once_puts : (k : LogKey) (old new : List Log) → All HasEachOnce old → PutsKey k old new → All HasEachOnce new
 once_puts k old new each (inl (place, before, there, apart, now)) =
     subst (All HasEachOnce) (sym now)

@@ -1,4 +1,4 @@
--- Laws of lists, of what is among them and of what stands at a place.
+-- Laws of lists: what is among them, and what is at a position.
 use Rattle.std.proofs.Common.{◌≡◌, ◌≢◌, ℕ, zero, suc, ◌+◌, ◌<◌, List, [], ◌∷◌, ◌++◌, Some, ◌⊎◌, inl, inr, refl, sym, ap, subst, ◌∙◌, map, take, length, slice_get, slice_index_or}
 use Rattle.std.specs.Option.{option_map}
 use Rattle.std.proofs.lemmas.List.{map_more}
@@ -32,7 +32,7 @@ among_or x y [] (inr none) = absurd none
 among_or x y (z ∷ xs) (inl same) = inr (inl same)
 among_or x y (z ∷ xs) (inr later) = elim (among_or x y xs later) [ inl same ↦ inl same | inr is ↦ inr (inr is) ]
 
--- one more that is new stands there once
+-- one more that is new is there once
 pub once_more : {A : Type 0} (xs : List A) (x : A) → ¬ (HasTwice xs) → ¬ (IsAmong x xs) → ¬ (HasTwice (xs ++ x ∷ []))
 once_more [] x once new (inl none) = none
 once_more [] x once new (inr none) = none
@@ -44,7 +44,7 @@ once_more (y ∷ xs) x once new (inr twice) = once_more xs x (λ t. once (inr t)
 
 -- ---- what stands at a place
 
--- what is read at a place shows there
+-- what is read at a position shows there
 pub shows_at : {A B : Type 0} (f : A → B) (xs : List A) (n i : ℕ) (x : A) (y : B)
     → n ≡ length xs → i < n → x ≡ slice_index_or xs i x → f x ≡ y → slice_get (map f xs) i ≡ Some y
 shows_at f xs n i x y whole within read shown =
