@@ -225,7 +225,7 @@ pub fine_append : (New : Option Bytes → Type 0) (a b : List Step) (disk : Disk
 fine_append New [] b disk q fine rest = rest
 fine_append New (s ∷ a) b disk q fine rest = (fine.0, fine_append New a b (after s disk) q fine.1 rest)
 
--- what calls made of a disk, by what the first of them made of it and then the others
+-- what calls make of a disk: first what the first of them make of it, then what the others do
 pub becomes_parts : (a b : List Call) (disk now : Disk) → Becomes disk (a ++ b) now → (mid : Disk) × Becomes disk a mid × Becomes mid b now
 becomes_parts [] b disk now becomes = (disk, refl, becomes)
 becomes_parts ((asked, true) ∷ a) b disk now becomes = becomes_parts a b (after asked disk) now becomes

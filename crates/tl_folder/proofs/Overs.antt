@@ -1,4 +1,4 @@
--- A file that is put over another.
+-- Putting a file over another.
 use Rattle.std.proofs.Common.{◌≡◌, true, false, Bool, List, [], ◌∷◌, ◌++◌, refl}
 use Rattle.std.specs.Prelude.{Result, Ok, Err, IsErr}
 use Rattle.tl_folder.specs.Step.{Path, Bytes}
