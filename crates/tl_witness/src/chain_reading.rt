@@ -103,8 +103,8 @@ fn put_link<A: Allocator + Copy>(
 
 /// Reads links, one on each line as `write_chain_line` writes it. Returns each origin with its links in order; the
 /// origins are in the order of their first lines. `Malformed` has the number of the first line that isn't written so;
-/// the last line must end with a newline, too. The time grows with the number of bytes and the logarithm of the
-/// number of origins.
+/// the last line must end with a newline, too. `OutOfMemory` comes only if the first line is one of a link. The time
+/// grows with the number of bytes and the logarithm of the number of origins.
 pub fn read_chain<A: Allocator + Copy>(
     alloc: A,
     bytes: &[u8],
