@@ -95,8 +95,8 @@ pub fn read_entries<S: ResourceSource, A: Allocator + Copy>(
 
 /// Reads a bundle as `read_entries` does. `fetched` must hold tiles that have passed all checks against this size and
 /// root, or none; they are neither fetched nor hashed again. Tiles fetched by this call are added after them, even on
-/// error; with `BadTile` the bad one is among them. In a run over several bundles call `FetchedTiles::keep_path`
-/// between two of them to drop the tiles that the next one doesn't need.
+/// error; after `BadTile` the bad one is among them, so they haven't all passed. In a run over several bundles call
+/// `FetchedTiles::keep_path` between two of them to drop the tiles that the next one doesn't need.
 pub fn read_entries_after<S: ResourceSource, A: Allocator + Copy>(
     alloc: A,
     source: &S,
