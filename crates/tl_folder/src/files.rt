@@ -59,8 +59,8 @@ pub(crate) fn sync_parent<H: Files>(
 }
 
 impl<H: Files + Drop> FolderFiles<H> {
-    /// Opens the files under this folder, which is made if it isn't there. Syncs the names in it, since a process
-    /// that was killed may have put a file there without that.
+    /// Opens the files under this folder, which is made if it isn't there. Syncs its name and the names in it, since
+    /// a process that was killed may have put a file there without syncing it.
     pub(crate) fn open(
         mut calls: SystemCalls<H>,
         alloc: Global,

@@ -1,5 +1,5 @@
-//! Locks on folders and files, so that only one process writes there. A lock is on the open file or folder, but
-//! writes open files by their path. If another folder or file takes the path, a second process can lock that one. So
+//! Locks on folders and files, so that only one process writes there. A lock is on the open file or folder, but what
+//! is written is opened by its path. If another folder or file takes the path, a second process can lock that one. So
 //! every write first checks that what is locked is still at its path. The check and the write are two calls.
 
 ghost use Rattle.std.specs.Prelude.{◌≡◌, true, [], ◌∷◌, IfOk, IsOk, OnOk};
