@@ -10,7 +10,7 @@ IsFull (resource.Tile t) = IsTile t × (t.width ≡ 256)
 IsFull (resource.Entries index width) = (index < 2 ^ 56) × (width ≡ 256)
 IsFull resource.Checkpoint = ⊥
 
--- the second is a partial one of the first: the same, with fewer hashes or entries
+-- the second resource is a partial one of the first: the same tile or bundle with fewer hashes or entries
 abbrev pub IsPartialOf : Resource → Resource → Type 0
 IsPartialOf (resource.Tile full) (resource.Tile t) = (t.level ≡ full.level) × (t.index ≡ full.index) × (t.width < 256)
 IsPartialOf (resource.Tile full) (resource.Entries index width) = ⊥

@@ -1,15 +1,15 @@
-//! Why a call of a shelf failed.
+//! The error of a shelf.
 
 use thiserror::Error;
 use tl_device::DeviceFault;
 use tl_tile::Resource;
 
-/// That a shelf failed.
+/// The error of a shelf's call.
 #[derive(Clone, Copy, Debug, PartialEq, Eq, Error)]
 #[error("the shelf failed: {why}")]
 pub struct ShelfFault {
-    /// Over which resource, where it was over one.
+    /// The resource that the call was for, if it was for one.
     pub resource: Option<Resource>,
-    /// Why.
+    /// What the device reported.
     pub why: DeviceFault,
 }

@@ -8,14 +8,15 @@ ghost use Rattle.tl_archive.specs.Complete.{text_of, IsComplete, IsSafe};
 ghost use Rattle.tl_log.specs.Histories.{Prefix};
 ghost use Rattle.tl_archive.specs.Shelves.{Kept};
 
-/// What a log needed once has the same bytes over a longer log: what is on a shelf is never wrong later.
+/// A tile or bundle that a log needed once has the same bytes over every longer log. So what is on a shelf is never
+/// wrong later.
 pub fn archived_bytes_stay()
     ensures { (H : Digest) (entries more : List Bytes) (r : Resource)
         → Contains (needed_resources (length entries)) r
         → text_of H r (entries ++ more) ≡ text_of H r entries }
 {}
 
-/// What is there on a safe shelf is complete for the checkpoint that it has.
+/// What is there on a safe shelf is complete for the checkpoint that is there.
 pub fn safe_shelf_is_complete()
     ensures { (H : Digest) (history : List Prefix) (kept : Kept)
         → IsSafe H history kept → IsComplete H history kept.held }

@@ -1,12 +1,12 @@
-//! Shelves.
+//! The trait of shelves.
 
 use crate::fault::ShelfFault;
 use std::alloc::Allocator;
 use tl_tile::Resource;
 
-/// Who keeps bytes by resource. Bytes are staged first, and come under their resources together when the shelf settles.
-/// Beside them it has a mark: how many entries were published. Contracts see what is there and what is staged, now and
-/// after each call so far, how often a call failed, and where the shelf is.
+/// Keeps bytes by resource (C2SP tlog-tiles). Bytes are staged first; `settle` then puts all that are staged under
+/// their resources. Besides them a shelf has a mark: how many entries were published. Contracts see what is there and
+/// what is staged, now and after each call so far, how many calls failed, and where the shelf is.
 pub trait Shelf {
     ghost use Rattle.std.specs.Prelude.{◌≡◌, ℕ, Bool, true, List, [], ◌∷◌, ◌++◌, OnOk, OnErr, IfOk, IfErr, Option, Some, option_map, vec_items};
     ghost use Rattle.tl_hash.specs.Bytes.{Bytes};
@@ -16,28 +16,28 @@ pub trait Shelf {
     ghost use Rattle.tl_archive.specs.Partials.{IsFull};
     ghost use Rattle.tl_archive.specs.Shelves.{Kept, Stages, Unstages, Settles, Removes, LacksPartials, Fails};
 
-    /// What is there, and what is staged.
+    /// What is there and what is staged.
     ghost kept: { Self → Kept };
 
-    /// The same after each call so far.
+    /// What was there and what was staged after each call so far.
     ghost trace: { Self → List Kept };
 
     /// How many calls failed.
     ghost faults: { Self → ℕ };
 
-    /// Where it is, as who opened it said. No call changes that.
+    /// Where the shelf is, as it was opened. No call changes it.
     ghost place: { Self → Bytes };
 
-    /// How many entries were marked as published, last.
+    /// The last mark: how many entries were published.
     ghost published: { Self → Option ℕ };
 
-    /// Why a read of a resource may fail.
+    /// The errors with which a read of a resource may fail.
     ghost may_fail: { Self → Resource → ShelfFault → Type 0 };
 
-    /// Whether what is read is what is there, as far as contracts can tell: no file of a system states that.
+    /// Whether contracts may assume that a read returns what is there. No specification of a file system says so.
     ghost is_honest: { Bool };
 
-    /// Stages the bytes, which are to replace those of the resource. At a failure nothing is staged.
+    /// Stages the bytes, which are to replace those of the resource. On error nothing is staged.
     fn stage(&mut self, resource: &Resource, bytes: &[u8]) -> Result<(), ShelfFault>
         requires { IsResource resource.now }
         ensures staged { OnOk result
@@ -49,8 +49,9 @@ pub trait Shelf {
         ensures place { place self.new ≡ place self.old }
         ensures mark { published self.new ≡ published self.old };
 
-    /// Puts all that is staged under its resources, so that it outlasts a crash: each resource has its old bytes up to
-    /// some moment, and then the new ones. At a failure a part of it is there, and the rest is no longer staged.
+    /// Puts all that is staged under its resources, so that it outlasts a crash. Each resource has its old bytes
+    /// until some moment, and the new ones from then on. On error a part of what was staged may be there, and the
+    /// rest is no longer staged.
     fn settle(&mut self) -> Result<(), ShelfFault>
         ensures unstaged { Unstages (kept self.old) (kept self.new) }
         ensures settled { OnOk result (Settles (kept self.old) (kept self.new)) }
@@ -60,8 +61,8 @@ pub trait Shelf {
         ensures place { place self.new ≡ place self.old }
         ensures mark { published self.new ≡ published self.old };
 
-    /// Removes the partial ones of a full tile or bundle (C2SP tlog-tiles, "Partial Tiles"), all at one moment, and so
-    /// that they stay away after a crash. At a failure some may be gone.
+    /// Removes the partial tiles or bundles of a full one (C2SP tlog-tiles, "Partial Tiles"), all at one moment, and
+    /// so that they stay away after a crash. On error some may be gone.
     fn remove_partials(&mut self, full: &Resource) -> Result<(), ShelfFault>
         requires { IsFull full.now }
         ensures removed { Removes full.now (kept self.old) (kept self.new) }
@@ -72,8 +73,8 @@ pub trait Shelf {
         ensures place { place self.new ≡ place self.old }
         ensures mark { published self.new ≡ published self.old };
 
-    /// Marks that a checkpoint of so many entries was published. It isn't waited for: a crash may leave an older mark,
-    /// or none.
+    /// Marks that a checkpoint of `size` entries was published. The call doesn't wait for the disk: a crash may leave
+    /// an older mark or none.
     fn mark_published(&mut self, size: u64) -> Result<(), ShelfFault>
         ensures kept { kept self.new ≡ kept self.old }
         ensures marked { OnOk result (published self.new ≡ Some size) }
@@ -82,12 +83,11 @@ pub trait Shelf {
         ensures trace { trace self.new ≡ trace self.old ++ kept self.new ∷ [] }
         ensures place { place self.new ≡ place self.old };
 
-    /// How many entries were marked, `None` where no mark is there. A shelf that isn't honest may answer anything.
+    /// Returns the mark, or `None` if there is none. A shelf that isn't honest may answer anything.
     fn read_mark(&self) -> Result<Option<u64>, ShelfFault>
         ensures { is_honest ≡ true → IfOk result (λ found. found ≡ published self.now) };
 
-    /// The bytes that are there under the resource, `None` where there are none. A shelf that isn't honest may answer
-    /// anything.
+    /// Returns the bytes of the resource, or `None` if there are none. A shelf that isn't honest may answer anything.
     fn read<A: Allocator>(
         &self,
         alloc: A,

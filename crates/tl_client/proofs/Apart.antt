@@ -1,4 +1,4 @@
--- A reader of kept tiles stands for each list that is apart from them.
+-- What a reader of kept tiles gives holds for each list that is apart from them.
 use Rattle.std.proofs.Common.{◌≡◌, ℕ, true, false, ◌≤◌, ◌^◌, List, ◌++◌, [], length, take, Some, refl, sym, ap, ◌∙◌, arith}
 use Rattle.std.proofs.lemmas.List.{append-nil, take_all}
 use Rattle.tl_hash.specs.Bytes.{Digest}

@@ -58,7 +58,7 @@ level_low size level limit some =
           absurd (omega (arith, under_within size level 0 some, power, positive_256 rest, limit))
     ]
 
--- and no more hashes than entries
+-- there are no more hashes than entries
 count_low : (size level : ℕ) → size ≤ 2 ^ 62 → level_count size level ≤ 2 ^ 62
 count_low size level limit = omega (arith, div-le_self size (256 ^ level), limit)
 
@@ -104,7 +104,7 @@ pub served_again : (may_answer : Tile → List ℕ → Type 0) (size : ℕ) (kep
 served_again may_answer size kept fetched served again =
     λ k d less. (let one = again k d less in (one.0, kept_text may_answer size kept _ _ served one.1))
 
--- one that they lack is none of their tiles
+-- a tile that they lack is none of theirs
 not_among : (kept : List (Tile × List ℕ)) (before after : List Tile) (t : Tile) → tiles_of kept t ≡ None → tiles_in kept ≡ before ++ t ∷ after → ⊥
 not_among [] [] after t none are = absurd (cc)
 not_among [] (b ∷ before) after t none are = absurd (cc)
@@ -119,7 +119,7 @@ not_among (f ∷ more) (b ∷ before) after t none are =
       | inr differ ↦ not_among more before after t (rw differ at none) cc
     ]
 
--- so where they passed all checks, it is a full tile, and the one above it is among them
+-- so if they passed all checks, it is a full tile, and the one above it is among them
 kept_next : (size : ℕ) (root : List ℕ) (kept again : List (Tile × List ℕ)) (t : Tile) → AreVerified sha256 size root kept
     → AreAnswers (λ t text. tiles_of kept t ≡ Some text) size again → tiles_of kept t ≡ None → ComesNext sha256 size root again t
     → IsNextFull sha256 size root kept t
@@ -155,7 +155,7 @@ RefusesTiles answers lacks size root entry client.OutOfMemory = Unit {0}
 abbrev pub KeptGives : ℕ → List ℕ → List (Tile × List ℕ) → ReadFault → Type 0
 KeptGives size root kept = MayGive sha256 (λ t text. tiles_of kept t ≡ Some text) (λ t. tiles_of kept t ≡ None) size root
 
--- what the tiles are that were kept: the source may answer them, they passed all checks, and the leaf was read from them
+-- about the tiles that were kept: the source may answer them, they passed all checks, and the leaf was read from them
 pub record AreKept (answers : Resource → List ℕ → Type 0) (size : ℕ) (root : List ℕ) (entry : ℕ) (kept : List (Tile × List ℕ)) (hashes : List (List ℕ)) : Type 0 where
   pub served : AreServed answers size kept
   pub verified : AreVerified sha256 size root kept

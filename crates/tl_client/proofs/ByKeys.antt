@@ -1,4 +1,4 @@
--- The witnesses that cosigned a text, by one key more.
+-- The witnesses that cosigned a text, with one key more.
 use Rattle.std.proofs.Common.{◌≡◌, ◌<◌, ◌≤◌, ◌⊎◌, ◌++◌, ◌∷◌, ◌∙◌, [], List, ℕ, Bool, true, false, None, Result, Ok, Err, MatchBool, zero, suc, length, map, drop, get_or, inl, inr, refl, ap, sym, subst, arith, Any, Contains}
 use Rattle.std.specs.List.{All}
 use Rattle.std.specs.Prelude.{IfOk, slice_index_or}
@@ -74,7 +74,7 @@ known_first text first rest lines (k, line, within, is, (time, valid)) = record 
   valid = valid;
 }
 
--- whoever cosigned it did by the first key, or by another
+-- whoever cosigned it used the first key or another
 by_first_or_rest : (text : Bytes) (first : Key) (rest : List Key) (lines : List Signature) (name : Bytes) → HasCosigned text (first ∷ rest) lines name
     → ((first.name ≡ name) × SomeBy text first lines) ⊎ HasCosigned text rest lines name
 by_first_or_rest text first rest lines name is = of_place is.known.0 is.known.1 is.known.2 where
@@ -101,7 +101,7 @@ by_nobody text lines = record {
   all = λ name is. absurd (omega (arith, is.known.1));
 }
 
--- nobody, by lists that have none
+-- without witnesses nobody cosigned
 pub by_none : {W N : Type 0} (key : W → Key) (now : N → Bytes) (text : Bytes) (witnesses : List W) (lines : List Signature) (items : List N) → length witnesses ≡ 0 → items ≡ []
     → AreCosigners text (map key witnesses) lines (map now items)
 by_none key now text [] lines [] none nothing = by_nobody text lines

@@ -1,4 +1,4 @@
--- Where a call failed: its fault is handed on.
+-- A fault of a call that the caller returns.
 use Rattle.std.proofs.Common.{◌≡◌, sym, subst}
 use Rattle.std.specs.Prelude.{Result, Ok, Err, IfErr, IsErrAnd}
 

@@ -37,7 +37,7 @@ leaves_next from next after entries leaves before here is =
       | inr differ ↦ before i low (omega (arith, less, is, differ))
     ]
 
--- those up to a place, and from there on
+-- those before a position, and those from there on
 pub leaves_join : (from middle upto : ℕ) (entries leaves : List Bytes) → HaveLeavesBetween sha256 from middle entries leaves → HaveLeavesBetween sha256 middle upto entries leaves
     → HaveLeavesBetween sha256 from upto entries leaves
 leaves_join from middle upto entries leaves first second =

@@ -1,4 +1,4 @@
--- When a client has no answer.
+-- Why a client has no answer.
 use Rattle.std.specs.Prelude.{◌≡◌, ◌≢◌, ℕ, ◌-◌, ◌*◌, ◌<◌, ◌≤◌, ◌^◌, ◌⊎◌, List, length, take, slice_index_or, [], Some}
 use Rattle.sha2.specs.Sha256.{sha256}
 use Rattle.tl_hash.specs.Bytes.{Bytes, Digest}
@@ -21,25 +21,26 @@ use Rattle.tl_client.specs.declared.fault.ClientFault.{ClientFault}
 use Rattle.tl_client.specs.declared.fault.ClientFault.TheVariants as client
 use Rattle.tl_hash.specs.declared.head.Head.{Head}
 
--- a read of the entries of a bundle: what they are checked against, and the tiles that were fetched
+-- a read of the entries of a bundle: the size and root that they are checked against, the bundle, and the tiles that
+-- were fetched
 pub record BundleRead : Type 0 where
   pub size : ℕ
   pub root : Bytes
   pub bundle : ℕ
   pub fetched : List (Tile × Bytes)
 
--- the reading of the leaves of all its entries
+-- the read of the leaves of all its entries
 abbrev pub bundle_leaves : BundleRead → Reading
 bundle_leaves read =
     leaf_reading read.size read.root (256 * read.bundle) (bundle_width read.size read.bundle) read.fetched
 
--- the source may lack the bundle of its width, or a tile that its leaves need
+-- the source may lack the bundle of this width, or a tile that its leaves need
 abbrev pub LacksEntries : (Resource → Type 0) → BundleRead → Type 0
 LacksEntries lacks read =
     lacks (resource.Entries read.bundle (bundle_width read.size read.bundle)) ⊎ LacksTile lacks (bundle_leaves read)
 
--- an entry of a bundle that the source may answer is another than the one with this index in each list of the size and
--- the root, or an input of the list and a string that was hashed for the tiles that were fetched collide
+-- The source may answer a bundle whose entry with this index differs from that of every list of the size and root; or
+-- an input of the list's tree collides with a string that was hashed for the tiles that were fetched.
 abbrev pub AnswersOtherEntry : (Resource → Bytes → Type 0) → BundleRead → ℕ → Type 0
 AnswersOtherEntry answers read index =
     (entries : List Bytes) × AreEntries (bundle_width read.size read.bundle) entries
@@ -48,8 +49,8 @@ AnswersOtherEntry answers read index =
     → (slice_index_or entries (index - 256 * read.bundle) [] ≢ slice_index_or all index [])
     ⊎ TilesCollide sha256 (tiles_of read.fetched) read.size all)
 
--- when the entries of a bundle are not read from a source, by the fault; a tile is bad among those that were fetched,
--- and an entry only where the tiles passed all checks
+-- Why the entries of a bundle are not read from a source. A bad tile is among those that were fetched. An entry is
+-- bad only if the tiles passed all checks.
 abbrev pub RefusesEntries : (Resource → Bytes → Type 0) → (Resource → Type 0) → BundleRead → ClientFault → Type 0
 RefusesEntries answers lacks read client.Range = HasBundle read.size read.bundle → ⊥
 RefusesEntries answers lacks read client.Unavailable = HasBundle read.size read.bundle × LacksEntries lacks read
@@ -65,33 +66,33 @@ RefusesEntries answers lacks read client.Shrunk = ⊥
 RefusesEntries answers lacks read client.Forked = ⊥
 RefusesEntries answers lacks read client.OutOfMemory = HasBundle read.size read.bundle
 
--- a list of this size and root, no input of whose tree collides with a string that is hashed for these tiles, or for
--- some of them
+-- a list of this size and root such that no input of its tree collides with a string that is hashed for these tiles,
+-- or for some of them
 pub record IsApart (H : Digest) (size : ℕ) (root : Bytes) (fetched : List (Tile × Bytes)) (all : List Bytes) : Type 0 where
   pub sized : length all ≡ size
   pub rooted : tree_hash H all ≡ root
   pub free : (some : List (Tile × Bytes)) → AreAnswers (λ t text. tiles_of fetched t ≡ Some text) size some
       → TilesCollide H (tiles_of some) size all → ⊥
 
--- tiles that passed all checks against this size and root are such that this holds of each list that is apart from them
+-- for some tiles that passed all checks against this size and root, this holds of each list that is apart from them
 abbrev pub HoldsByTiles : Digest → ℕ → Bytes → (List Bytes → Type 0) → Type 0
 HoldsByTiles H size root Holds =
     (fetched : List (Tile × Bytes)) × AreVerified H size root fetched
     × ((all : List Bytes) → IsApart H size root fetched all → Holds all)
 
--- the leaf hash isn't that of the log's entry with this index
+-- the log's entry with this index has another leaf hash
 abbrev pub IsOtherLeaf : Digest → ℕ → Bytes → ℕ → Bytes → Type 0
 IsOtherLeaf H size root index leaf =
     HoldsByTiles H size root (λ all. H (leaf_input (slice_index_or all index [])) ≢ leaf)
 
--- an entry of a log, and what is said to be its leaf hash
+-- an entry of a log, and what is claimed to be its leaf hash
 pub record LeafRead : Type 0 where
   pub size : ℕ
   pub root : Bytes
   pub index : ℕ
   pub leaf : Bytes
 
--- when no inclusion proof is made for a leaf hash from a source, by the fault
+-- why a source gives no inclusion proof for a leaf hash
 abbrev pub RefusesEntry : (Resource → Bytes → Type 0) → (Resource → Type 0) → LeafRead → ClientFault → Type 0
 RefusesEntry answers lacks read client.Range = IsIndex read.size read.index → ⊥
 RefusesEntry answers lacks read client.Unavailable =
@@ -107,29 +108,28 @@ RefusesEntry answers lacks read client.Shrunk = ⊥
 RefusesEntry answers lacks read client.Forked = ⊥
 RefusesEntry answers lacks read client.OutOfMemory = IsIndex read.size read.index
 
--- a consistency proof between these sizes has a hash: the old log is neither empty nor the whole new one
+-- a consistency proof between these sizes has hashes: the old log is neither empty nor as large as the new one
 pub record IsBetween (old size : ℕ) : Type 0 where
   pub some : 0 < old
   pub more : old < size
 
--- the old root is not that of the new log's first entries
+-- the old root isn't that of the new log's first entries
 pub record IsFork (H : Digest) (old new : Head) : Type 0 where
   pub order : old.size ≤ new.size
   pub limit : new.size ≤ 2 ^ 62
-  -- of the same size, the roots differ
+  -- at the same size, the roots differ
   pub same_size : old.size ≡ new.size → old.root ≢ new.root
-  -- from no entries to some, the old root isn't the hash of none
+  -- from an empty log to one with entries, the old root isn't the hash of no bytes
   pub from_none : old.size ≡ 0 → 0 < new.size → old.root ≢ H []
-  -- between others, the first entries have another root
+  -- else the new log's first entries have another root
   pub no_prefix : IsBetween old.size new.size
       → HoldsByTiles H new.size new.root (λ all. tree_hash H (take old.size all) ≢ old.root)
 
--- the growth between these heads has to be proved: from some entries to more, in range
+-- the growth between these heads needs a proof: the old log isn't empty, and the new one is larger and in range
 abbrev pub NeedsProof : Head → Head → Type 0
 NeedsProof old new = IsBetween old.size new.size × (new.size ≤ 2 ^ 62)
 
--- when the growth of a log is not accepted from a source, by the fault; the tiles are those of the new log over the
--- last old entry
+-- Why a source doesn't show the growth of a log. The tiles are those of the new log over the last old entry.
 abbrev pub RefusesGrowth : (Resource → Bytes → Type 0) → (Resource → Type 0) → Head → Head → ClientFault → Type 0
 RefusesGrowth answers lacks old new client.Range = (old.size ≤ new.size) × (2 ^ 62 < new.size)
 RefusesGrowth answers lacks old new client.Unavailable =

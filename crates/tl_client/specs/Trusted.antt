@@ -16,18 +16,18 @@ use Rattle.tl_checkpoint.specs.declared.checkpoint.CheckpointFault.TheVariants a
 use Rattle.tl_client.specs.declared.head.HeadFault.{HeadFault}
 use Rattle.tl_client.specs.declared.head.HeadFault.TheVariants as head
 
--- a fault of a note, passed on
+-- what a fault of a note becomes
 abbrev pub after_note : NoteFault → HeadFault
 after_note note.OutOfMemory = head.OutOfMemory
 after_note fault = head.Unopened fault
 
--- a fault of a checkpoint's text, passed on
+-- what a fault of a checkpoint's text becomes
 abbrev pub after_checkpoint : CheckpointFault → HeadFault
 after_checkpoint checkpoint.OutOfMemory = head.OutOfMemory
 after_checkpoint fault = head.NoCheckpoint fault
 
--- whom a client trusts: the keys of the log, and so many of the witnesses with these keys, of whom each has a name, and
--- may have several keys
+-- what a client trusts: the keys of the log, and any `need` of the witnesses with these keys; a witness has one name
+-- and may have several keys
 pub record Trust : Type 0 where
   pub keys : List Key
   pub witnesses : List Key
@@ -49,7 +49,7 @@ pub record AreCosigners (text : Bytes) (witnesses : List Key) (lines : List Sign
   pub apart : AllPairs (λ a b. a ≢ b) names
   pub all : (name : Bytes) → HasCosigned text witnesses lines name → Contains names name
 
--- the bytes are a note of this checkpoint that opens under the log's keys, and so many witnesses cosigned it
+-- the bytes are a note of this checkpoint that opens with the log's keys, and `count` witnesses cosigned it
 pub record IsCosigned (bytes : Bytes) (trust : Trust) (c : Head) (count : ℕ) : Type 0 where
   pub signed : IsSignedCheckpoint bytes trust.keys c
   pub names : List Bytes
@@ -60,11 +60,11 @@ pub record IsCosigned (bytes : Bytes) (trust : Trust) (c : Head) (count : ℕ) :
 abbrev pub IsTrusted : Bytes → Trust → Head → Type 0
 IsTrusted bytes trust c = (count : ℕ) × IsCosigned bytes trust c count × (trust.need ≤ count)
 
--- so many did, and that isn't enough
+-- only `count` witnesses cosigned it, and more must
 abbrev pub HasTooFew : Bytes → Trust → ℕ → Type 0
 HasTooFew bytes trust count = (c : Head) × IsCosigned bytes trust c count × (count < trust.need)
 
--- the checkpoint, or the first reason why it isn't trusted; memory is asked for a note alone
+-- The checkpoint, or the first reason why it isn't trusted. Memory is allocated only for a note.
 abbrev pub OpensHead : {A : Type 0} → Bytes → Trust → Result (Checkpoint A) HeadFault → Type 0
 OpensHead bytes trust (Ok c) = IsTrusted bytes trust (head_of c)
 OpensHead {A = A} bytes trust (Err (head.Unopened fault)) =

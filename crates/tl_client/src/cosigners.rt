@@ -1,4 +1,4 @@
-//! Which witnesses cosigned a checkpoint, each by whichever of its keys.
+//! Finding the witnesses that cosigned a checkpoint, each with any of its keys.
 
 ghost use Rattle.std.specs.Prelude.{◌≡◌, ◌↔◌, All, Any, Contains, IfOk, IsTrue, MatchBool, ℕ, map};
 ghost use Rattle.tl_checkpoint.specs.Cosignature.{ChecksCosignature, IsCosignature};
@@ -8,21 +8,21 @@ use std::alloc::{AllocError, Allocator};
 use tl_checkpoint::check_cosignature;
 use tl_note::{SigView, Verifier};
 
-// The name of a witness.
+// Returns the name of a witness.
 fn name_of(witness: &Box<dyn Verifier>) -> &str
     ensures { result.now ≡ (key witness.now).name }
 {
     witness.name()
 }
 
-// Whether a name is among these.
+// Reports whether a name is among these.
 fn is_among(names: &[&str], name: &str) -> bool
     ensures { IsTrue result ↔ Any (λ known. known.now ≡ name.now) names.now }
 {
     names.iter().any(|known| *known == name)
 }
 
-// The time of the line, where it is a cosignature by the witness.
+// Returns the time of the line if it is a cosignature by the witness.
 fn time_by<A: Allocator + Copy>(
     alloc: A,
     text: &str,
@@ -34,7 +34,7 @@ fn time_by<A: Allocator + Copy>(
     check_cosignature(alloc, text, line, &**witness)
 }
 
-// Whether one of the lines is a cosignature by this key.
+// Reports whether one of the lines is a cosignature by this key.
 fn has_line<A: Allocator + Copy>(
     alloc: A,
     text: &str,
@@ -54,8 +54,8 @@ fn has_line<A: Allocator + Copy>(
     has_line(alloc, text, rest, witness)
 }
 
-/// The names of the witnesses that cosigned the text by these lines, each once (C2SP tlog-cosignature). Keys with one
-/// name are one witness's. It fails only where a growth was refused.
+/// Returns the names of the witnesses that cosigned the text with one of these lines, each once (C2SP
+/// tlog-cosignature). Keys with the same name belong to one witness. It fails only if allocation fails.
 pub(crate) fn cosigner_names<'w, A: Allocator + Copy>(
     alloc: A,
     text: &str,

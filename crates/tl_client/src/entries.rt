@@ -1,4 +1,4 @@
-//! The entries of a log, a bundle at a time.
+//! Reading the entries of a log, one bundle at a time.
 
 ghost use Rattle.std.specs.Prelude.{◌≡◌, ◌↔◌, ◌<◌, ◌≤◌, ◌+◌, ◌*◌, ◌^◌, map, vec_items, IsTrue, IfOk, IfErr, OnOk};
 ghost use Rattle.sha2.specs.Sha256.{sha256};
@@ -21,14 +21,14 @@ use std::alloc::Allocator;
 use tl_hash::Hash;
 use tl_tile::{BundleFault, FetchedTiles, Resource, bundle_width, read_bundle};
 
-// Whether a log of this size has the bundle.
+// Reports whether a log of this size has the bundle.
 fn has_bundle(size: u64, bundle: u64) -> bool
     ensures { IsTrue result ↔ HasBundle size bundle }
 {
     size <= 1 << 62 && bundle < (size + 255) / 256
 }
 
-// A fault of reading the bundle with this index.
+// Converts the fault of reading the bundle with this index.
 fn bundle_fault(bundle: u64, fault: BundleFault) -> ClientFault
     ensures { result ≡ after_bundle bundle fault }
 {
@@ -38,7 +38,7 @@ fn bundle_fault(bundle: u64, fault: BundleFault) -> ClientFault
     }
 }
 
-// The entries of a bundle of this width, as the source has them.
+// Returns the entries of a bundle of this width, as the source has them.
 fn fetch_bundle<S: ResourceSource, A: Allocator + Copy>(
     alloc: A,
     source: &S,
@@ -65,11 +65,11 @@ fn fetch_bundle<S: ResourceSource, A: Allocator + Copy>(
     }
 }
 
-/// The entries of a bundle of a log of this size and root, each checked (C2SP tlog-tiles, "Log Entries"): each has the
-/// leaf hash that the checked tiles have. `fetched` then holds the tiles that were fetched and no others, also after a
-/// fault. `Range`: the log has no such bundle, counted from 0, or more than 2^62 entries. `Unavailable`: the source
-/// lacks the bundle or a tile over it. `BadBundle`: the bytes are none of its width. `BadEntry`: the first entry that
-/// isn't the log's.
+/// Returns the entries of a bundle of a log of this size and root, each checked against the leaf hash in checked
+/// tiles (C2SP tlog-tiles, "Log Entries"). Bundles are counted from 0. `fetched` then holds the tiles that were
+/// fetched and no others, even on error. `Range`: the log has no such bundle, or more than 2^62 entries.
+/// `Unavailable`: the source lacks the bundle or a tile over it. `BadBundle`: the bytes are no bundle of its width.
+/// `BadEntry`: the first entry that isn't the log's.
 pub fn read_entries<S: ResourceSource, A: Allocator + Copy>(
     alloc: A,
     source: &S,
@@ -93,10 +93,10 @@ pub fn read_entries<S: ResourceSource, A: Allocator + Copy>(
     }
 }
 
-/// As `read_entries`, after tiles that passed all checks against this size and root, or none: those are neither fetched
-/// nor hashed again. The tiles that are fetched come behind them, also after a fault, and of a `BadTile` the tile, so
-/// that they haven't passed then. Over a run of bundles, `FetchedTiles::keep_path` between two of them lets those go that
-/// the next one doesn't need.
+/// Reads a bundle as `read_entries` does. `fetched` must hold tiles that have passed all checks against this size and
+/// root, or none; they are neither fetched nor hashed again. Tiles fetched by this call are added after them, even on
+/// error; after `BadTile` the bad one is among them, so they haven't all passed. In a run over several bundles call
+/// `FetchedTiles::keep_path` between two of them to drop the tiles that the next one doesn't need.
 pub fn read_entries_after<S: ResourceSource, A: Allocator + Copy>(
     alloc: A,
     source: &S,

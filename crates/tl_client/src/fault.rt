@@ -1,4 +1,4 @@
-//! Why a client has no answer.
+//! The errors of a client's checks.
 
 ghost use Rattle.std.specs.Prelude.{◌≡◌};
 ghost use Rattle.tl_client.specs.Faults.{after_prove, after_read, after_source};
@@ -16,22 +16,22 @@ pub enum ClientFault {
     /// The log has no such entry or bundle, or more than 2^62 entries.
     #[error("out of range")]
     Range,
-    /// The source has not got a resource, or a proof asked for a tile beyond those over its leaf.
+    /// The source lacks a resource, or a proof asked for a tile beyond those over its leaf.
     #[error("a resource is unavailable")]
     Unavailable,
-    /// This tile is not the one that the root was made with.
+    /// This tile isn't the one that the root was computed from.
     #[error("bad tile: level {level}, index {index}, width {width}")]
     BadTile { level: u32, index: u64, width: u32 },
-    /// The bytes of the bundle with this index, counted from 0, are none of the width that it has to have.
+    /// The bytes of the bundle with this index, counted from 0, are no bundle of the width that it must have.
     #[error("entry bundle {0} is malformed")]
     BadBundle(u64),
-    /// The entry with this index, counted from 0, is not the one that the root was made with.
+    /// The entry with this index, counted from 0, isn't the one that the root was computed from.
     #[error("entry {0} is not the log's")]
     BadEntry(u64),
-    /// The new size is below the old one.
+    /// The new size is smaller than the old one.
     #[error("the log shrank")]
     Shrunk,
-    /// The new log is no continuation of the old one.
+    /// The new log doesn't begin with the old one.
     #[error("the log forked")]
     Forked,
     /// Memory ran out.

@@ -1,4 +1,4 @@
-//! The growth of a log from one size and root to another.
+//! Checking that a log has only grown, from one size and root to another.
 
 ghost use Rattle.std.specs.Prelude.{◌≡◌, ◌≤◌, ◌^◌, ◌⊎◌, [], IfOk, IfErr, OnOk};
 ghost use Rattle.sha2.specs.Sha256.{sha256};
@@ -17,8 +17,8 @@ use tl_hash::{Hash, Head, Sha256Tree};
 use tl_proof::{check_tree, prove_tree};
 use tl_tile::{FetchedTiles, TileHashReader};
 
-// A consistency proof between the sizes, from checked tiles of a log with this root: those over the last old entry. It
-// has no hash where there is no old entry or no new one.
+// Returns a consistency proof between the sizes, made from checked tiles of a log with this root: those over the last
+// old entry. It has no hash if the old log is empty or the sizes are equal.
 fn proof_between<S: ResourceSource, A: Allocator + Copy>(
     alloc: A,
     source: &S,
@@ -48,11 +48,11 @@ fn proof_between<S: ResourceSource, A: Allocator + Copy>(
     Ok(proof)
 }
 
-/// A consistency proof that the new log begins with the old one (RFC 6962, section 2.1.2), made from checked tiles of
-/// the new log over the last old entry, and accepted. `fetched` then holds these and no others, also after a fault: none
-/// from no entries, or between equal sizes. `Shrunk`: the new log is the smaller one. `Range`: it has more than 2^62
-/// entries. `Unavailable`: the source lacks such a tile, or the proof asks for another. `Forked`: the old root isn't that
-/// of the new log's first entries.
+/// Returns a consistency proof that the new log begins with the old one (RFC 6962, section 2.1.2), made from checked
+/// tiles of the new log over the last old entry, and accepted. `fetched` then holds these tiles only, even on error;
+/// there are none if the old log is empty or the sizes are equal. `Shrunk`: the new log is smaller. `Range`: it has
+/// more than 2^62 entries. `Unavailable`: the source lacks such a tile, or the proof asks for another. `Forked`: the
+/// new log's first entries have another root.
 pub fn prove_growth<S: ResourceSource, A: Allocator + Copy>(
     alloc: A,
     source: &S,

@@ -1,4 +1,5 @@
-//! What a client trusts of a log: a size and a root, from a checkpoint that the log signed and witnesses cosigned.
+//! Checking a checkpoint that the log signed and witnesses cosigned. What a client trusts of a log is its size and
+//! root.
 
 ghost use Rattle.std.specs.Prelude.{◌≡◌, map};
 ghost use Rattle.tl_client.specs.Trusted.{OpensHead, after_checkpoint, after_note};
@@ -10,16 +11,16 @@ use thiserror::Error;
 use tl_checkpoint::{Checkpoint, CheckpointFault, parse};
 use tl_note::{NoteFault, Verifier, open_note};
 
-/// Why a checkpoint isn't trusted, in the order in which it is found.
+/// Why a checkpoint isn't trusted, in the order of the checks.
 #[derive(Clone, Copy, Debug, PartialEq, Eq, Error)]
 pub enum HeadFault {
-    /// The bytes are no note, or it doesn't open under the log's keys (C2SP signed-note, "Verification").
+    /// The bytes are no note, or it doesn't open with the log's keys (C2SP signed-note, "Verification").
     #[error("{0}")]
     Unopened(NoteFault),
-    /// The note opens, and its text is no checkpoint.
+    /// The note opens, but its text is no checkpoint.
     #[error("{0}")]
     NoCheckpoint(CheckpointFault),
-    /// Only so many witnesses cosigned it.
+    /// Only this many witnesses cosigned it.
     #[error("only {0} witnesses cosigned the checkpoint")]
     TooFew(u64),
     /// Memory ran out.
@@ -65,10 +66,10 @@ impl From<CheckpointFault> for HeadFault {
     }
 }
 
-/// The checkpoint of a signed note that opens under the log's keys (C2SP tlog-checkpoint), and that at least `need` of
-/// the witnesses cosigned (C2SP tlog-cosignature). Keys with one name are one witness's: it counts once, whichever of
-/// them it signed with. A line that is of no witness, or isn't valid for this checkpoint, isn't counted. `OutOfMemory`
-/// is of a note alone.
+/// Returns the checkpoint of a signed note that opens with the log's keys (C2SP tlog-checkpoint) and that at least
+/// `need` of the witnesses cosigned (C2SP tlog-cosignature). Keys with the same name belong to one witness, which
+/// counts once, whichever of them it used. A line that is of no witness, or isn't valid for this checkpoint, doesn't
+/// count. `OutOfMemory` comes only if the text is a note.
 pub fn open_cosigned<A: Allocator + Copy>(
     alloc: A,
     note: &str,

@@ -15,17 +15,17 @@ use tl_hash::{Hash, Sha256Tree};
 use tl_proof::{check_record, prove_record};
 use tl_tile::{FetchedTiles, TileHashReader};
 
-// Whether a log of this size has an entry with this index.
+// Reports whether a log of this size has an entry with this index.
 fn is_index(size: u64, index: u64) -> bool
     ensures { IsTrue result ↔ IsIndex size index }
 {
     index < size && size <= 1 << 62
 }
 
-/// An inclusion proof of the leaf hash at this index, counted from 0, in a log of this size and root, the hash nearest
-/// to the leaf first (RFC 6962, section 2.1.1). It is made from checked tiles, those over the entry, and accepted.
-/// `Range` comes where the log has no such entry or more than 2^62; `Unavailable` where the source lacks a tile over
-/// the entry or the proof asks for another; `BadEntry` where the leaf hash isn't that of the log's entry.
+/// Returns an inclusion proof of the leaf hash at this index, counted from 0, in a log of this size and root, with
+/// the hash nearest to the leaf first (RFC 6962, section 2.1.1). It is made from checked tiles over the entry, and
+/// was accepted. `Range` means that the log has no such entry or more than 2^62; `Unavailable` that the source lacks
+/// a tile over the entry, or the proof asks for another; `BadEntry` that the log's entry has another leaf hash.
 pub fn prove_entry<S: ResourceSource, A: Allocator + Copy>(
     alloc: A,
     source: &S,

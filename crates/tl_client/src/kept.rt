@@ -6,8 +6,8 @@ ghost use Rattle.tl_tile.specs.Fetched.{tiles_of};
 use std::alloc::Allocator;
 use tl_tile::{FetchedTiles, SourceFault, Tile, TileSource};
 
-/// A source that has the tiles that were fetched, and no others: another is `Unavailable`. That a proof asks for none
-/// but the tiles over its leaf, no clause of a prover says: tests alone show it.
+/// A source that has the fetched tiles and no others: any other is `Unavailable`. No contract says that a proof asks
+/// only for tiles over its leaf; only tests show it.
 #[derive(Clone, Copy, Drop)]
 pub(crate) struct FetchedSource<'f, F: Allocator>(pub(crate) &'f FetchedTiles<F>);
 

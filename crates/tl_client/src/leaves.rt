@@ -1,4 +1,4 @@
-//! The leaf hashes of a bundle, as the tiles have them and as the entries give them.
+//! The leaf hashes of a bundle, from the tiles and from the entries.
 
 ghost use Rattle.std.specs.Prelude.{◌≡◌, ◌↔◌, ◌<◌, ◌≤◌, ◌+◌, ◌^◌, ℕ, IsTrue, [], length, map, slice_index_or, vec_items, IfOk, IfErr, OnOk};
 ghost use Rattle.sha2.specs.Sha256.{sha256};
@@ -15,7 +15,7 @@ use tl_hash::{Hash, Sha256Tree, TreeHash, leaf_hash};
 use tl_store::stored_index;
 use tl_tile::{FetchedTiles, TileHashReader};
 
-// The numbers of so many leaves among the stored hashes, from the one of this entry on.
+// Returns the stored indexes of `count` leaves, from the one of entry `first` on.
 fn numbers_of<A: Allocator>(alloc: A, first: u64, count: u32) -> Result<Vec<u64, A>, AllocError>
     requires { first + count ≤ 2 ^ 62 }
     ensures { IfOk result (λ numbers. numbers.items ≡ leaf_numbers first count) }
@@ -27,8 +27,8 @@ fn numbers_of<A: Allocator>(alloc: A, first: u64, count: u32) -> Result<Vec<u64,
     Ok(numbers)
 }
 
-/// So many leaf hashes of a log of this size and root, from the one of this entry on, after tiles that passed all
-/// checks, or none. The tiles that are fetched come behind them.
+/// Returns `count` leaf hashes of a log of this size and root, from the one of entry `first` on. `fetched` holds
+/// tiles that have passed all checks, or none; the tiles that are fetched are added after them.
 pub(crate) fn read_leaves<S: ResourceSource, A: Allocator + Copy>(
     alloc: A,
     source: &S,
@@ -57,14 +57,14 @@ pub(crate) fn read_leaves<S: ResourceSource, A: Allocator + Copy>(
     Ok(leaves)
 }
 
-// Whether two hashes are the same.
+// Reports whether two hashes are the same.
 fn is_same(a: Hash, b: Hash) -> bool
     ensures { IsTrue result ↔ (a ≡ b) }
 {
     a == b
 }
 
-// Checks that the leaf hash of the entry at a place, which this is, stands there among the leaf hashes.
+// Checks that `hash`, the leaf hash of the entry at a position, is also at this position of the leaf hashes.
 fn check_place<A: Allocator>(
     first: u64,
     entries: &[Vec<u8, A>],
@@ -87,7 +87,7 @@ fn check_place<A: Allocator>(
     Ok(())
 }
 
-// The leaf hashes of four entries, from this place on.
+// Returns the leaf hashes of the four entries from this position on.
 fn hash_four<A: Allocator>(entries: &[Vec<u8, A>], from: usize) -> [Hash; 4]
     requires { from + 4 ≤ length entries.now }
     ensures { (j : ℕ) → j < 4 → slice_index_or result j []
@@ -98,7 +98,7 @@ fn hash_four<A: Allocator>(entries: &[Vec<u8, A>], from: usize) -> [Hash; 4]
     Sha256Tree.digest_four(0, a, b, c, d)
 }
 
-// Checks the leaf hashes of four entries, from this place on.
+// Checks the leaf hashes of the four entries from this position on.
 fn check_four<A: Allocator>(
     first: u64,
     entries: &[Vec<u8, A>],
@@ -119,8 +119,7 @@ fn check_four<A: Allocator>(
     Ok(())
 }
 
-// Checks the leaf hashes of the next entries, from this place on: of four where there are four, or of one. It gives the
-// place after them.
+// Checks the leaf hashes of the next four entries, or of one if there are fewer. Returns the position after them.
 fn check_next<A: Allocator>(
     first: u64,
     entries: &[Vec<u8, A>],
@@ -145,7 +144,7 @@ fn check_next<A: Allocator>(
     Ok(from + 1)
 }
 
-/// Checks that these are the leaf hashes of the entries, the first of which has this index.
+/// Checks that these are the leaf hashes of the entries. The first entry has index `first`.
 pub(crate) fn check_leaves<A: Allocator>(
     first: u64,
     entries: &[Vec<u8, A>],

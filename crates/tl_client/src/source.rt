@@ -1,4 +1,4 @@
-//! Sources of the resources of a log.
+//! The trait of sources, which have the resources of a log.
 
 ghost use Rattle.std.specs.Prelude.{◌≡◌, ◌↔◌, IsTrue, IfOk, IfErr};
 ghost use Rattle.tl_hash.specs.Bytes.{Bytes};
@@ -7,20 +7,20 @@ ghost use Rattle.tl_tile.specs.Path.{IsTile};
 use std::alloc::Allocator;
 use tl_tile::{Resource, SourceFault, Tile, TileSource};
 
-/// What serves the resources of a log (C2SP tlog-tiles). Nothing is known of the bytes but what the source says that it
-/// may answer: it may lie.
+/// Serves the resources of a log (C2SP tlog-tiles). It may lie: of the bytes nothing is known but what `may_answer`
+/// says.
 pub trait ResourceSource {
     ghost use Rattle.tl_tile.specs.Path.{IsResource};
     ghost use Rattle.tl_tile.specs.declared.resource.Resource.{Resource};
     ghost use Rattle.tl_tile.specs.declared.source.SourceFault.TheVariants.{Unavailable};
 
-    /// Which bytes it may answer for a resource.
+    /// The bytes that it may answer for a resource.
     ghost may_answer: { Self → Resource → Bytes → Type 0 };
 
-    /// Which resources it may not have.
+    /// The resources that it may lack.
     ghost may_lack: { Self → Resource → Type 0 };
 
-    /// The bytes of a resource. `Unavailable` where the source has not got it.
+    /// Returns the bytes of a resource. `Unavailable` means that the source lacks it.
     fn get<A: Allocator>(&self, alloc: A, resource: &Resource) -> Result<Vec<u8, A>, SourceFault>
         requires { IsResource resource.now }
         ensures text { IfOk result (λ text. may_answer self.now resource.now text.items) }
@@ -32,7 +32,7 @@ pub trait ResourceSource {
 #[derive(Clone, Copy, Drop)]
 pub struct Tiles<'s, S: ResourceSource>(pub &'s S);
 
-/// Whether a log serves this tile under a path (C2SP tlog-tiles).
+/// Reports whether the tile has a path, under which a log may serve it (C2SP tlog-tiles).
 pub fn is_tile(tile: Tile) -> bool
     ensures { IsTrue result ↔ IsTile tile }
 {
@@ -46,7 +46,7 @@ impl<S: ResourceSource> TileSource for Tiles<'_, S> {
 
     ghost may_lack = { λ s t. IsTile t → S.may_lack s.0.now (resource.Tile t) };
 
-    /// What the source has under the tile's path. `Unavailable` also where the tile has none.
+    /// Returns what the source has under the tile's path. `Unavailable` also comes for a tile that has no path.
     fn fetch<A: Allocator + Copy>(&self, alloc: A, tile: Tile) -> Result<Vec<u8, A>, SourceFault> {
         if !is_tile(tile) {
             return Err(SourceFault::Unavailable);

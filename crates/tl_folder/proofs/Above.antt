@@ -32,7 +32,7 @@ has_end : (folders : List Path) (path : Path) → IsTrue (has_path (folders ++ p
 has_end [] path = ap (λ (b : Bool). b || false) ((bytes_eq-Decides path path).1 refl)
 has_end (first ∷ rest) path = ap (λ (b : Bool). bytes_eq first path || b) (has_end rest path) ∙ or_true (bytes_eq first path)
 
--- one text more behind the others
+-- one text more after the others
 pub has_more : {X : Type 0} (text : X → Path) (folders now : List X) (one : X) (path : Path) → now ≡ folders ++ one ∷ [] → IsTrue (has_path (map text folders) path) → IsTrue (has_path (map text now) path)
 has_more {X} text folders now one path is has =
     let all : map text now ≡ map text folders ++ text one ∷ [] = ap (λ (x : List X). map text x) is ∙ map-append text folders (one ∷ []) in

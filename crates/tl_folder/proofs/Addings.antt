@@ -1,4 +1,4 @@
--- A new file that is put in its place.
+-- Putting a new file in its place.
 use Rattle.std.proofs.Common.{◌≡◌, ◌≢◌, true, false, inl, inr, ◌⊎◌, List, [], ◌∷◌, ◌++◌, Some, refl, sym, ap, subst, ◌∙◌, append_assoc}
 use Rattle.std.specs.Prelude.{Bool, Option, Result, Ok, Err, is_ok}
 use Rattle.std.specs.Path.{path_parent}
@@ -93,7 +93,7 @@ put_there aside place bytes before mid filled after (Err e) asks is then =
 
 -- ---- what a crash leaves
 
--- what makes folders alone changes no path
+-- calls that only make folders change no path
 above_same : (path : Path) (calls : List Call) (disk now : Disk) → AreAbove path calls → Becomes disk calls now → now ≡ disk
 above_same path [] disk now above becomes = becomes
 above_same path ((asked, true) ∷ more) disk now above becomes =

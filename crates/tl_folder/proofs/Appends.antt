@@ -56,7 +56,7 @@ sync_front path front disk leaves = no_more_front (disk path) (after (step.Sync 
 spoil_front : (path : Path) (rest front : Bytes) (disk : Disk) → LeavesFront (disk path) front → LeavesFront (after_failed (step.Sync path) rest disk path) front
 spoil_front path rest front disk leaves = no_more_front (disk path) (after_failed (step.Sync path) rest disk path) front (spoil_spares path rest disk path) leaves
 
--- whatever came of the step, the file there begins with these bytes after it too
+-- whatever the outcome of the step, the file there still begins with these bytes
 abbrev Keeps : Path → Bytes → Step → Type 0
 Keeps path front s = (disk : Disk) → LeavesFront (disk path) front
     → LeavesFront (after s disk path) front × ((rest : Bytes) → LeavesFront (after_failed s rest disk path) front)

@@ -23,7 +23,7 @@ own_failed path q bytes rest s disk apart (inl is) =
     subst (λ (x : Step). after_failed x rest disk q ≡ disk q) (sym is) (put_other path q (record { there = Some (Torn [] rest); older = or_lost (disk path).there (disk path).older }) disk apart)
 own_failed path q bytes rest s disk apart (inr (own, folder, parent, is_up, is)) = subst (λ (x : Step). after_failed x rest disk q ≡ disk q) (sym is) refl
 
--- staging, whatever came of it, leaves every other path as it is
+-- staging, whatever its outcome, leaves every other path as it is
 pub aside_only : (path q : Path) (bytes : Bytes) (calls : List Call) (disk now : Disk) → q ≢ path → IsAside path bytes calls → Becomes disk calls now → now q ≡ disk q
 aside_only path q bytes [] disk now apart aside becomes = ap (λ (x : Disk). x q) becomes
 aside_only path q bytes ((asked, true) ∷ more) disk now apart aside becomes =

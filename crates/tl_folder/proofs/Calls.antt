@@ -136,7 +136,7 @@ now_part_removed reached inside events now full bytes kept same is =
     subst (λ (x : List Event). Removes full (after_calls reached 0 events kept) (after_calls reached 0 x kept)) (sym (joined inside events now (call.PartRemoved full, bytes) same is))
     (part_removed_after reached events full bytes kept)
 
--- nothing was removed, for the call failed before
+-- nothing was removed, since the call failed before
 pub now_unremoved : (reached : Reached) (inside events now : List Event) (full : Resource) (bytes : List ℕ) (kept : Kept) → inside ≡ events → now ≡ inside ++ (call.Failed, bytes) ∷ []
     → Removes full (after_calls reached 0 events kept) (after_calls reached 0 now kept)
 now_unremoved reached inside events now full bytes kept same is =
@@ -149,7 +149,7 @@ each_now reached inside events now event kept same is =
     subst (λ (x : List Event). after_each reached 0 x kept ≡ after_each reached 0 events kept ++ after_calls reached 0 x kept ∷ []) (sym (joined inside events now event same is))
     (each_more reached 0 events event kept)
 
--- a folder is shown as a record of these
+-- a folder's model is a record of these
 abbrev pub Shows : List Event → ℕ → Path → List Move → List Call → Path → Option ℕ → Calls → Type 0
 Shows events failures root moves made place published shown =
     ◌≡◌ {A = Calls} (record { events = events; failures = failures; root = root; moves = moves; made = made; place = place; published = published }) shown
@@ -159,7 +159,7 @@ pub same_events : (events : List Event) (failures : ℕ) (root : Path) (moves : 
     → Shows events failures root moves made place published shown → events ≡ shown.events
 same_events events failures root moves made place published shown is = ap (λ (x : Calls). x.events) is
 
--- the folder as it is shown settled by calls of what it has
+-- by its model, the folder settled with the calls for what it had staged
 pub settled_calls : (events : List Event) (failures : ℕ) (root : Path) (moves : List Move) (made : List Call) (place : Path) (published : Option ℕ) (shown : Calls) (folders : List Path) (after : List Call)
     → Shows events failures root moves made place published shown
     → AreCovered root folders moves → after ≡ made ++ done (settling moves folders)
@@ -174,7 +174,7 @@ pub cut_calls : (events : List Event) (failures : ℕ) (root : Path) (moves : Li
 cut_calls events failures root moves made place published shown folders after is covered takes =
     subst (λ (x : Calls). (them : List Path) × AreCovered x.root them x.moves × ((after ≡ x.made) ⊎ ((some : List Call) × (after ≡ x.made ++ some) × Fails (settling x.moves them) some))) is (folders, covered, takes)
 
--- the folder as it is shown made the calls of a removal, by the paths that were made for it
+-- by its model, the folder made the calls of a removal, with the paths that were made for it
 pub removed_calls : (events : List Event) (failures : ℕ) (root : Path) (moves : List Move) (made : List Call) (place : Path) (published : Option ℕ) (shown : Calls) (full : Resource) (from to : Path) (after : List Call)
     → Shows events failures root moves made place published shown
     → from ≡ partials_path root full → to ≡ removed_path root → HasMoved from to made after ⊎ HasNotMoved from to made after

@@ -70,7 +70,7 @@ moved_other from to q a b disk not_from not_to = put_other to q b (put from a di
 third : {A : Type 0} (b c : Bool) (x y z : A) → b ≡ false → c ≡ false → (if b then x else (if c then y else z)) ≡ z
 third b c x y z first second = ap (λ (v : Bool). if v then x else (if c then y else z)) first ∙ ap (λ (v : Bool). if v then y else z) second
 
--- what is in neither of two folders stays where one is moved to the other
+-- what is in neither of two folders stays when one is moved to the other
 pub away_other : (from to q : Path) (disk : Disk) → is_within from q ≡ false → is_within to q ≡ false → after (step.MoveAway from to) disk q ≡ disk q
 away_other from to q disk not_from not_to = third (is_within to q) (is_within from q) moved_in (record { there = None; older = [] }) (disk q) not_to not_from
 
@@ -225,7 +225,7 @@ pub fine_append : (New : Option Bytes → Type 0) (a b : List Step) (disk : Disk
 fine_append New [] b disk q fine rest = rest
 fine_append New (s ∷ a) b disk q fine rest = (fine.0, fine_append New a b (after s disk) q fine.1 rest)
 
--- what calls made of a disk, by what the first of them made of it and then the others
+-- what calls make of a disk: first what the first of them make of it, then what the others do
 pub becomes_parts : (a b : List Call) (disk now : Disk) → Becomes disk (a ++ b) now → (mid : Disk) × Becomes disk a mid × Becomes mid b now
 becomes_parts [] b disk now becomes = (disk, refl, becomes)
 becomes_parts ((asked, true) ∷ a) b disk now becomes = becomes_parts a b (after asked disk) now becomes

@@ -14,7 +14,7 @@ use Rattle.tl_folder.specs.Lines.{IsWholeFront, ReadFront}
 abbrev pub over : Option (List ℕ) → Option (List ℕ) → Bool → Bool → Passage
 over a b f g = record { old = a; new = b; had_failed = f; has_failed = g }
 
--- so many bytes came, of which so many are whole lines
+-- this many bytes came, of which this many are whole lines
 pub record Measured (p : Passage) (count whole : ℕ) : Type 0 where
   pub input : List ℕ
   pub consumed : Consumes p.old p.new input

@@ -1,4 +1,4 @@
--- Folders that are made.
+-- Making folders.
 use Rattle.std.proofs.Common.{◌≡◌, true, false, inl, inr, List, [], ◌∷◌, ◌++◌, Some, None, refl, sym, ap, subst, ◌∙◌, append_assoc}
 use Rattle.std.specs.Prelude.{Bool, Result, Ok, Err, IsErr, is_ok}
 use Rattle.std.specs.Path.{path_parent}
@@ -26,7 +26,7 @@ raised_stop : (named : Bool) (path parent : Path) (mid after : List Call) → pa
 raised_stop named path parent mid after is (inl same) = inl same
 raised_stop named path parent mid after is (inr (folder, made, is_up, are, fails)) = inr (folder, made, is_higher is is_up, are, fails)
 
--- one of the calls failed that make the folder, after others were asked for
+-- after others were asked for, one of the calls that make the folder failed
 pub one_stops : {S T D E : Type 0} (named : Bool) (path : Path) (before mid after : List Call) (one : Result S D) (r : Result T E)
     → IsErr one → IsErr r → AsksUp named path before mid → AsksOne named path mid after one → MakesFolders named path before after r
 one_stops named path before mid after (Ok x) r failed fails up asks = absurd (cc)
@@ -52,7 +52,7 @@ above_asked named path parent before mid after is up (last, more, asks) = joined
 
 -- ---- a file that is written beside its place
 
--- the same calls behind others
+-- the same calls after others
 rebased_one : (named : Bool) (folder : Path) (a mid after : List Call) (front : List Call) → mid ≡ a ++ front → Asks named folder mid after
     → (made : List Call) × (after ≡ a ++ made) × Asks named folder front made
 rebased_one named folder a mid after front is (inl asked) =
@@ -74,7 +74,7 @@ fails_aside path own folder bytes ((asked, true) ∷ (call ∷ more)) parent is_
 fails_aside path own folder bytes ((asked, false) ∷ more) parent is_up fails =
     (inr (own, folder, parent, is_up, fails.0), subst (λ (x : List Call). IsAside path bytes x) (sym fails.1) tt)
 
--- to write the file failed, and then to make a folder above it
+-- writing the file failed, and then making a folder above it
 pub unmade_aside : {S T D E : Type 0} (path own : Path) (bytes : Bytes) (before first after : List Call) (one : Result S D) (r : Result T E)
     → IsErr one → IsErr r → path_parent path ≡ Some own → first ≡ before ++ (step.Write path bytes, false) ∷ [] → MakesFolders false own first after one → WritesAside path bytes before after r
 unmade_aside path own bytes before first after (Ok x) r failed fails parent is makes = absurd (cc)

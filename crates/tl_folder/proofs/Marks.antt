@@ -18,7 +18,7 @@ use Rattle.tl_folder.specs.Places.{mark_path, mark_text, place_of}
 use Rattle.tl_folder.proofs.Disks.{put_other, rename_other}
 use Rattle.tl_folder.proofs.Ends.{ends_place, beside_no_place}
 
--- a mark is text
+-- a mark is valid UTF-8
 pub mark_utf8 : (size : ℕ) → size < 2 ^ 63 → IsUtf8 (mark_text size)
 mark_utf8 size small =
     IsUtf8-append (decimal size) (10 ∷ []) (IsUtf8-from_ascii (decimal size) (IsAscii-decimal size (omega (arith, small))))

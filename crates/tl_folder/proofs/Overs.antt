@@ -1,4 +1,4 @@
--- A file that is put over another.
+-- Putting a file over another.
 use Rattle.std.proofs.Common.{◌≡◌, true, false, Bool, List, [], ◌∷◌, ◌++◌, refl}
 use Rattle.std.specs.Prelude.{Result, Ok, Err, IsErr}
 use Rattle.tl_folder.specs.Step.{Path, Bytes}
@@ -24,7 +24,7 @@ unmoved {T} {E} lasting aside place bytes before mid synced after (Err e) fails 
     does_last {T = T} {E = E} (step.Write aside bytes ∷ []) (syncing_if lasting aside ++ step.Rename aside place ∷ naming_if lasting place) before mid after (Err e) is
     (does_then {T = T} {D = E} (syncing_if lasting aside) (step.Rename aside place ∷ naming_if lasting place) mid synced after (Err e) then ((step.Rename aside place, false) ∷ [], last, (refl, refl)))
 
--- it was put there, and its name outlasts a crash, where it is to, or that failed
+-- it was put there, and its name outlasts a crash if it is to; or a call for that failed
 pub moved : {T E : Type 0} (lasting : Bool) (aside place : Path) (bytes : Bytes) (before mid synced put after : List Call) (r : Result T E)
     → mid ≡ before ++ (step.Write aside bytes, true) ∷ [] → synced ≡ mid ++ done (syncing_if lasting aside) → put ≡ synced ++ (step.Rename aside place, true) ∷ []
     → Does (naming_if lasting place) put after r → Takes (putting lasting aside place bytes) before after r

@@ -69,7 +69,7 @@ never_removed root r =
 
 -- ---- what is in the folder of partial ones
 
--- what comes behind a dot is no part of a number
+-- what follows a dot is no part of a number
 same_number : (n : ℕ) (text a b : Path) → leading_number n (text ++ 46 ∷ a) ≡ leading_number n (text ++ 46 ∷ b)
 same_number n [] a b = refl
 same_number n (c ∷ text) a b = ap (λ (x : ℕ). if c == 46 then n else x) (same_number (with_digit n c) text a b)
@@ -203,7 +203,7 @@ removed_stays_away disk now root full s before more left is_full part are become
 abbrev Nothing : Option Bytes → Type 0
 Nothing left = left ≡ None
 
--- whatever came of the step, a crash leaves at the path what it might have left before, or nothing
+-- whatever the outcome of the step, a crash leaves at the path what it might have left before, or nothing
 abbrev Takes : Step → Path → Type 0
 Takes s q = (rest : Bytes) (disk : Disk) → LeavesOldOr Nothing (disk q) (after s disk q) × LeavesOldOr Nothing (disk q) (after_failed s rest disk q)
 

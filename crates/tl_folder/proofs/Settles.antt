@@ -64,7 +64,7 @@ syncs_fine : (New : Option Bytes → Type 0) (moves : List Move) (disk : Disk) (
 syncs_fine New [] disk q = tt
 syncs_fine New (m ∷ more) disk q = (inl tt, syncs_fine New more (after (syncing m) disk) q)
 
--- a sync takes away what a file has from no path
+-- syncs don't change what else a crash may leave at a path
 syncs_there : (moves : List Move) (disk : Disk) (q : Path) (older : List (Option File)) → (disk q).older ≡ older → (run (map syncing moves) disk q).older ≡ older
 syncs_there [] disk q older is = is
 syncs_there (m ∷ more) disk q older is =

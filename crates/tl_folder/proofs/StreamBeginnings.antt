@@ -10,7 +10,7 @@ use Rattle.tl_folder.specs.Settling.{naming_in}
 use Rattle.tl_folder.specs.Lines.{CutsLines, ReadFront}
 use Rattle.tl_folder.proofs.Beginnings.{does_then}
 
--- all was done but to have the name outlast a crash
+-- all was done except syncing the name
 pub cut_unnamed : {T D E : Type 0} (path : Path) (p : Passage) (count : ℕ) (before first second after : List Call) (cut_ok sync_ok : Bool) (one : Result T D) (r : Result ℕ E)
     → IsErr one → IsErr r → ReadFront p count → first ≡ before ++ (step.Cut path count, cut_ok) ∷ [] → cut_ok ≡ true
     → second ≡ first ++ (step.Sync path, sync_ok) ∷ [] → sync_ok ≡ true → Does (naming_in (folder_of path)) second after one → CutsLines path p before after r

@@ -5,7 +5,7 @@ use Rattle.tl_hash.specs.Bytes.{Bytes}
 use Rattle.tl_tile.specs.Verified.{AreVerified}
 use Rattle.tl_tile.specs.declared.resource.Tile.{Tile}
 
--- tiles that passed all checks against the size and the root of a log
+-- the tiles passed all checks against the size and root of some log
 pub record HavePassed (fetched : List (Tile × Bytes)) : Type 0 where
   pub size : ℕ
   pub root : Bytes

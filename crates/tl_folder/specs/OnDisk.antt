@@ -19,12 +19,12 @@ abbrev pub ReflectsEither : Path → Kept → Disk → Type 0
 ReflectsEither root kept disk = (r : Resource) (left : Option Bytes) → IsResource r → MayBe (disk (place_of root r)) left
     → (left ≡ kept.held r) ⊎ ((bytes : Bytes) × (left ≡ Some bytes) × Contains kept.staged (r, bytes))
 
--- a crash leaves under each resource what is held, and nothing else, or nothing of a partial one of the full one
+-- a crash leaves under each resource what is held and nothing else, or nothing of a partial one of the full one
 abbrev pub ReflectsSome : Path → Resource → Held → Disk → Type 0
 ReflectsSome root full held disk = (r : Resource) (left : Option Bytes) → IsResource r → MayBe (disk (place_of root r)) left
     → (left ≡ held r) ⊎ (IsPartialOf full r × (left ≡ None))
 
--- the files of the items, and their places
+-- the path beside each item's place, and its place
 abbrev pub moves_of : Path → List Item → List Move
 moves_of root items = map (λ item. move_to (place_of root item.0)) items
 
@@ -34,12 +34,12 @@ AreStaged root [] calls = calls ≡ []
 AreStaged root (item ∷ more) calls =
     (made : List Call) × (rest : List Call) × (calls ≡ made ++ rest) × IsStaging (new_path (place_of root item.0)) item.1 made × AreStaged root more rest
 
--- the resource is none of these
+-- the resource is that of none of these items
 abbrev pub IsNew : Resource → List Item → Type 0
 IsNew r [] = Unit {0}
 IsNew r (item ∷ more) = (r ≢ item.0) × IsNew r more
 
--- each is a resource, and none of them comes twice
+-- each item is of a resource, and no two are of the same
 abbrev pub AreOnce : List Item → Type 0
 AreOnce [] = Unit {0}
 AreOnce (item ∷ more) = IsResource item.0 × IsNew item.0 more × AreOnce more

@@ -1,14 +1,14 @@
--- Where the files of a folder are: that of each resource, and that of the mark; and where folders are.
+-- The paths in a folder: of each resource, of the mark, and of folders.
 use Rattle.std.specs.Prelude.{ℕ, [], ◌∷◌, ◌++◌, codes, decimal}
 use Rattle.tl_tile.specs.declared.resource.Resource.{Resource}
 use Rattle.tl_tile.specs.Path.{path_text}
 use Rattle.tl_folder.specs.Step.{Path, Bytes}
 
--- the place of a resource in the folder with this path
+-- the path of a resource in the folder with this path
 abbrev pub place_of : Path → Resource → Path
 place_of root resource = root ++ 47 ∷ [] ++ path_text resource
 
--- the place of the mark in the folder with this path
+-- the path of the mark in the folder with this path
 abbrev pub mark_path : Path → Path
 mark_path root = root ++ 47 ∷ [] ++ codes "published"
 
@@ -16,10 +16,10 @@ mark_path root = root ++ 47 ∷ [] ++ codes "published"
 abbrev pub partials_path : Path → Resource → Path
 partials_path root full = place_of root full ++ codes ".p"
 
--- the folder to which such a one is moved before it is removed, in the folder with this path
+-- the path to which the folder of partial ones is moved before it is removed, in the folder with this path
 abbrev pub removed_path : Path → Path
 removed_path root = root ++ 47 ∷ [] ++ codes "removed"
 
--- what the mark says: how many entries were published, in decimal, and a newline
+-- the bytes of the mark: how many entries were published, in decimal, and a newline
 abbrev pub mark_text : ℕ → Bytes
 mark_text size = decimal size ++ 10 ∷ []

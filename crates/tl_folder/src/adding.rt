@@ -1,4 +1,4 @@
-//! New files that are put in their places as a whole.
+//! Writing a new file and putting it in its place as a whole.
 
 ghost use Rattle.tl_folder.specs.FileCalls.{Does};
 ghost use Rattle.tl_folder.specs.Adding.{filling, Fills, Adds};
@@ -10,7 +10,7 @@ use std::fs::Files;
 use std::path::Path;
 use tl_device::DeviceFault;
 
-// Writes a new file, and has what it has outlast a crash.
+// Writes a new file and syncs it.
 fn fill<H: Files>(calls: &mut SystemCalls<H>, path: &str, bytes: &[u8]) -> Result<(), DeviceFault>
     ensures { Does (filling path.now bytes.now) calls.old calls.new result }
 {
@@ -18,7 +18,8 @@ fn fill<H: Files>(calls: &mut SystemCalls<H>, path: &str, bytes: &[u8]) -> Resul
     calls.sync(path)
 }
 
-// The same; where it fails, the file is removed again, if the system does that. A file that was there stays there.
+// Writes a new file and syncs it. If that fails, removes the file again if the system does; but if the name was
+// taken, what is there stays.
 fn fill_or_remove<H: Files>(
     calls: &mut SystemCalls<H>,
     path: &str,
@@ -36,7 +37,7 @@ fn fill_or_remove<H: Files>(
     }
 }
 
-// Makes the folder that a path is in, and those above it, where they aren't there.
+// Makes the folder that a path is in, and those above it, if they aren't there.
 fn make_above<H: Files>(calls: &mut SystemCalls<H>, path: &str) -> Result<(), DeviceFault>
     ensures { MakesAbove path.now calls.old calls.new result }
 {
@@ -46,9 +47,9 @@ fn make_above<H: Files>(calls: &mut SystemCalls<H>, path: &str) -> Result<(), De
     }
 }
 
-/// Writes a new file beside a place and then puts it there, once what it has outlasts a crash; the folders above are
-/// made where they aren't there. Their names and its own may be lost in a crash. `Taken`: something is beside the
-/// place. (Where something came to the place, also a link, it is replaced by what is renamed, and not followed.)
+/// Writes and syncs a new file beside a place, then renames it to the place. Makes the folders above if they aren't
+/// there. A crash may lose their names and the file's own. `Taken` means that something is beside the place. (If
+/// something appears at the place meanwhile, even a symbolic link, the rename replaces it and doesn't follow it.)
 pub(crate) fn add_file<H: Files>(
     calls: &mut SystemCalls<H>,
     aside: &str,

@@ -1,4 +1,4 @@
-//! Tiles of a log that passed all checks, kept in a folder.
+//! A folder of a log's tiles that have passed all checks.
 
 ghost use Rattle.std.specs.Prelude.{◌≡◌};
 ghost use Rattle.tl_tile.specs.Path.{IsTile};
@@ -14,8 +14,8 @@ use std::marker::Model;
 use std::path::Path;
 use tl_tile::{FetchedTiles, Resource, Tile};
 
-/// A folder for tiles that passed all checks, each in a file at its path (C2SP tlog-tiles). Contracts see the folder's
-/// text.
+/// A folder of tiles that have passed all checks, each in a file at its path (C2SP tlog-tiles). Contracts see the
+/// folder's path.
 #[derive(Drop)]
 pub struct TileCache<'s, H: Files> {
     files: &'s H,
@@ -30,7 +30,8 @@ impl<'s, H: Files> Model for TileCache<'s, H> {
     ghost view = { λ c. c.folder.now };
 }
 
-// Whether no link leads out of the cache's folder on the way to a place under it. (The folder itself may be a link.)
+// Reports whether no symbolic link is between the cache's folder and a place under it. (The folder itself may be a
+// link.)
 fn stays_under<H: Files>(calls: &SystemCalls<H>, folder: &str, place: &str) -> bool {
     let Some(first) = Path::new(place).parent() else {
         return true;
@@ -46,21 +47,21 @@ fn stays_under<H: Files>(calls: &SystemCalls<H>, folder: &str, place: &str) -> b
     true
 }
 
-// Whether a file can be put at this place: nothing is there, also no link to nowhere, and no link is on the way. The
-// look and the writing are two calls: who may write into the folder can come between them.
+// Reports whether a file can be put at this place: nothing is there, not even a broken link, and no link is on the
+// way. Between this call and the write somebody else may change the folder.
 fn has_room<H: Files>(calls: &SystemCalls<H>, folder: &str, place: &str) -> bool {
     is_free(calls.symlink_metadata(place)) && stays_under(calls, folder, place)
 }
 
 impl<'s, H: Files> TileCache<'s, H> {
-    /// The tiles under this folder. Nothing is read or written.
+    /// Returns the cache under this folder. It reads and writes nothing.
     pub fn new(files: &'s H, folder: &'s str) -> TileCache<'s, H>
         ensures { result ≡ folder.now }
     {
         TileCache { files, folder }
     }
 
-    // Writes the file of a tile where there is room for it.
+    // Writes the file of a tile if there is room for it.
     fn keep_tile<B: Allocator + Copy>(
         &self,
         alloc: B,
@@ -79,10 +80,10 @@ impl<'s, H: Files> TileCache<'s, H> {
         Ok(())
     }
 
-    /// Writes each of the tiles, which passed all checks, to its file, where that isn't there. It is written under the
-    /// name with `.new` behind it and then renamed, so that no part of a tile is ever under its path. Where that name
-    /// is taken, as by another process or since a crash, where a link is at the place or on the way to it, and where a
-    /// write fails, the cache goes without the tile. It fails only where memory is refused.
+    /// Writes each of the tiles, which must have passed all checks, to its file, unless the file is there. A tile is
+    /// written under its name with `.new` added and then renamed, so that no part of a tile is ever under its path. A
+    /// tile is skipped if that name is taken, for example by another process or since a crash, if a symbolic link is
+    /// at its place or on the way, or if a write fails. It fails only if allocation fails.
     pub fn keep<A: Allocator, B: Allocator + Copy>(
         &self,
         alloc: B,

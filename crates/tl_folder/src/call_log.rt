@@ -1,4 +1,4 @@
-//! The calls of a system so far, for clauses alone.
+//! The system calls made so far. Only contracts see them.
 
 ghost use Rattle.std.specs.Prelude.{◌≡◌, [], ◌∷◌, ◌++◌};
 
@@ -6,7 +6,7 @@ use crate::record::note_bytes;
 use http_server::Log;
 use std::marker::Model;
 
-/// What was asked of a system.
+/// What the system was asked to do.
 #[derive(Clone, Copy)]
 pub(crate) enum Asked {
     Write,
@@ -22,7 +22,7 @@ pub(crate) enum Asked {
     RemoveFolder,
 }
 
-/// A call of which contracts see the path, and the bytes or the second path.
+/// A call as contracts see it: its path, and the bytes or the second path.
 #[derive(Drop)]
 pub(crate) struct Noted {
     path: Log<(), u8>,
@@ -30,7 +30,7 @@ pub(crate) struct Noted {
     is_ok: bool,
 }
 
-/// The calls so far. It takes no memory.
+/// The calls so far. It takes no memory at run time.
 #[derive(Drop)]
 pub(crate) struct CallLog {
     log: Log<Asked, Noted>,
@@ -49,14 +49,14 @@ impl Model for CallLog {
 impl CallLog {
     ghost use Rattle.tl_folder.specs.Inner.CallLog.{step_of};
 
-    /// No call yet.
+    /// Returns an empty list of calls.
     pub(crate) fn new() -> CallLog
         ensures { result ≡ [] }
     {
         CallLog { log: Log::new() }
     }
 
-    /// Notes a call, with its path and the bytes or the second path.
+    /// Adds a call, with its path and the bytes or the second path.
     pub(crate) fn note(&mut self, asked: Asked, path: &str, more: &[u8], is_ok: bool)
         ensures { self.new ≡ self.old ++ (step_of asked path.now more.now, is_ok) ∷ [] }
     {

@@ -1,12 +1,12 @@
-//! What of a folder no contract tells.
+//! What no call reports about a folder's disk.
 
 use crate::system::sync_at;
 use crate::together::{SyncKind, SyncOutcome, SyncsTogether};
 use std::fs::Files;
 
-/// What a folder had before its first call, of which resources a settling that failed replaced the bytes, and which
-/// partial ones a removal that failed removed. No call of a system tells that: what is stated of a folder holds for
-/// every disk.
+/// What no call reports: what a folder had before its first call, which resources a settling that failed had put
+/// there, and which partial tiles and bundles a removal that failed had removed. The contracts of a folder hold
+/// whatever these are.
 pub trait CrashOutcome: SyncsTogether {
     ghost use Rattle.tl_archive.specs.Shelves.{Held};
     ghost use Rattle.tl_folder.specs.Folders.{Reached};
@@ -14,11 +14,12 @@ pub trait CrashOutcome: SyncsTogether {
     /// What the folder had at first.
     ghost held: { Held };
 
-    /// Of which resources the n-th call, where it failed, replaced the bytes or removed them.
+    /// The resources whose bytes the n-th call replaced or removed, if it failed.
     ghost reached: { Reached };
 }
 
-/// A disk that syncs one file after another, up to one that failed. Code over any disk is the same code.
+/// A disk that syncs one file after another and stops at the first failure. What its ghost members say doesn't
+/// matter: the code is the same for every disk.
 #[derive(Clone, Copy, Debug)]
 pub struct AnyOutcome;
 
@@ -47,10 +48,10 @@ impl SyncsTogether for AnyOutcome {
     }
 }
 
-/// How syncs are spread over threads: a program hands it in, since it alone has the handle of the threads.
+/// How syncs are spread over threads. The program passes it in, since only the program can start threads.
 pub type Spread = fn(&HostRuntime, SyncKind, &[String], &mut [SyncOutcome]);
 
-/// The disk of a program, which syncs many files side by side: `spread` is to call `sync_at` once for each outcome.
+/// A disk that syncs many files side by side. `spread` must call `sync_at` once for each outcome.
 #[derive(Clone, Copy)]
 pub struct SideBySide {
     files: HostRuntime,
@@ -59,7 +60,7 @@ pub struct SideBySide {
 }
 
 impl SideBySide {
-    /// The disk of the system, on which syncs are spread in this way.
+    /// Returns the system's disk, whose syncs are spread in this way.
     pub fn new(files: HostRuntime, spread: Spread) -> SideBySide
         requires { IsAlwaysCallable spread }
     {

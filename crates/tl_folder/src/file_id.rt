@@ -1,4 +1,4 @@
-//! Which file or folder it is.
+//! The identity of a file or folder.
 
 ghost use Rattle.std.specs.Prelude.{◌≡◌, ◌≢◌, ◌↔◌, IfErr, IfOk, IsErrAnd, IsOk, OnOk, OnSome};
 ghost use Rattle.std.specs.IoError.{error_kind};
@@ -10,8 +10,8 @@ use std::io::ErrorKind;
 use std::os::unix::fs::MetadataExt;
 use tl_device::DeviceFault;
 
-/// Which file or folder it is: the device that it is on, and its number there. While it is open or has a path, none
-/// other has the same.
+/// The identity of a file or folder: its device and its number there. While it is open or has a path, no other has
+/// the same.
 #[derive(Clone, Copy, PartialEq, Eq)]
 pub(crate) struct FileId {
     device: u64,
@@ -19,7 +19,7 @@ pub(crate) struct FileId {
 }
 
 impl FileId {
-    /// Which one the system told of.
+    /// Returns the identity in this metadata.
     pub(crate) fn of(metadata: &Metadata) -> FileId {
         FileId {
             device: metadata.dev(),
@@ -27,7 +27,7 @@ impl FileId {
         }
     }
 
-    // Which one is at a path, by what the system told of it; `None` where nothing is there.
+    // Returns the identity of what is at a path, given the path's metadata, or `None` if nothing is there.
     fn at(told: io::Result<Metadata>) -> Result<Option<FileId>, DeviceFault>
         ensures none { (result ≡ Ok None) ↔ IsErrAnd told (λ e. error_kind e ≡ ErrorKind.NotFound) }
         ensures failed { IfErr result (λ fault. IsErrAnd told
@@ -41,7 +41,7 @@ impl FileId {
         }
     }
 
-    // Fails where another one was found at its path, or none.
+    // Fails with `Moved` if something else was found at the path, or nothing.
     fn check_found(&self, found: Option<FileId>) -> Result<(), DeviceFault>
         ensures same { IsOk result ↔ (found ≡ Some self.now) }
         ensures moved { IfErr result (λ fault. fault ≡ DeviceFault.Moved) }
@@ -53,7 +53,7 @@ impl FileId {
         }
     }
 
-    /// Fails with `Moved` where another one is at its path, by what the system told of the path, or none.
+    /// Fails with `Moved` if something else is at the path, or nothing, given the path's metadata.
     pub(crate) fn check(&self, told: io::Result<Metadata>) -> Result<(), DeviceFault>
         ensures { OnOk result (IsOk told) }
     {

@@ -1,4 +1,4 @@
-//! The files of a folder: each is written beside its place, and all that were written are put there together.
+//! The files of a folder. Each is written beside its place, and all that were written are put in place together.
 
 ghost use Rattle.std.specs.Prelude.{◌≡◌, ◌⊎◌, [], ◌∷◌, ◌++◌, map, string_bytes, vec_items, IfOk, OnOk, OnErr};
 ghost use Rattle.tl_tile.specs.Path.{IsResource};
@@ -32,19 +32,19 @@ pub(crate) struct FolderFiles<H> {
     pub(crate) calls: SystemCalls<H>,
     alloc: Global,
     root: String,
-    // Which folder was at its path when it was opened.
+    // The folder that was at the path when it was opened.
     folder: FileId,
     staged: Vec<Staged>,
-    // The folders in which files are put by the next settling, or folders were made for them.
+    // The folders that the next settling must sync: files are put there, or folders were made for them.
     changed: Vec<String>,
-    // Whether a settling or a removal failed: what of it outlasts a crash isn't known then.
+    // Whether a settling or a removal has failed. It isn't known then what of it outlasts a crash.
     is_broken: bool,
-    // Of each place the folder and those above it up to the root.
+    // `changed` has, for each place, its folder and those above it up to the root.
     ghost covered: { AreCovered (string_bytes root)
         (map string_bytes (vec_items changed)) (map move_of (vec_items staged)) },
 }
 
-/// Has the name of a file or folder at this path outlast a crash.
+/// Syncs the folder that this path is in, so that the path's name outlasts a crash.
 pub(crate) fn sync_parent<H: Files>(
     calls: &mut SystemCalls<H>,
     path: &str,
@@ -59,8 +59,8 @@ pub(crate) fn sync_parent<H: Files>(
 }
 
 impl<H: Files + Drop> FolderFiles<H> {
-    /// The files under this folder, which is made where it isn't there. The names in it outlast a crash: a process that
-    /// was killed may have put a file there, and not synced that.
+    /// Opens the files under this folder, which is made if it isn't there. Syncs its name and the names in it, since
+    /// a process that was killed may have put a file there without syncing it.
     pub(crate) fn open(
         mut calls: SystemCalls<H>,
         alloc: Global,
@@ -85,14 +85,14 @@ impl<H: Files + Drop> FolderFiles<H> {
         })
     }
 
-    // Fails with `Moved` where another folder is at its path than the one that was opened, or none.
+    // Fails with `Moved` if the folder at the path isn't the one that was opened.
     fn check_folder(&self) -> Result<(), DeviceFault> {
         let root = self.root.as_str();
         let path = if root.is_empty() { "/" } else { root };
         self.folder.check(self.calls.metadata(path))
     }
 
-    // The path of a resource's file.
+    // Returns the path of a resource's file.
     fn place_of(&self, resource: &Resource) -> Result<String, AllocError>
         requires { IsResource resource.now }
         ensures { IfOk result (λ place. string_bytes place
@@ -101,7 +101,7 @@ impl<H: Files + Drop> FolderFiles<H> {
         path_under(self.alloc, self.root.as_str(), resource)
     }
 
-    // The path of the mark's file.
+    // Returns the path of the mark's file.
     fn mark_place(&self) -> Result<String, AllocError>
         ensures { IfOk result (λ place. string_bytes place
             ≡ mark_path (string_bytes self.now.root)) }
@@ -112,9 +112,9 @@ impl<H: Files + Drop> FolderFiles<H> {
         Ok(place)
     }
 
-    /// Writes the bytes beside the place of a resource. `Moved`: another folder is at its path than the one that was
-    /// opened. `NotPlain`: something else than a plain file is where the bytes are to be written, as a link. Nothing
-    /// was written then.
+    /// Writes the bytes beside the place of a resource. `Moved` means that the folder at the path isn't the one that
+    /// was opened; `NotPlain` that something else than a plain file, such as a symbolic link, is where the bytes
+    /// would be written. Nothing was written then.
     pub(crate) fn stage(&mut self, resource: &Resource, bytes: &[u8]) -> Result<(), DeviceFault>
         requires { IsResource resource.now }
         ensures calls { WritesAside (new_path (place_of (string_bytes self.old.root) resource.now)) bytes.now
@@ -144,8 +144,8 @@ impl<H: Files + Drop> FolderFiles<H> {
         Ok(())
     }
 
-    /// By which paths the partial ones of a full tile or bundle are removed. `Moved`: another folder is at its path
-    /// than the one that was opened.
+    /// Returns the paths for removing the partial tiles or bundles of a full one. `Moved` means that the folder at
+    /// the path isn't the one that was opened.
     pub(crate) fn going_of(&self, full: &Resource) -> Result<Going, DeviceFault>
         requires { IsResource full.now }
         ensures partials { IfOk result (λ going. string_bytes going.partials
@@ -165,8 +165,8 @@ impl<H: Files + Drop> FolderFiles<H> {
         Ok(Going { partials, removed })
     }
 
-    /// Removes the folder of partial ones, if it is there. It waits for the disk: the folder is gone after a crash too,
-    /// though not what it had in it, at another path. After a failure every call fails.
+    /// Removes the folder of partial tiles or bundles, if it is there. Waits for the disk: the folder stays away
+    /// after a crash, though what was in it may be left at another path. After an error every call fails.
     pub(crate) fn remove(&mut self, going: &Going) -> Result<(), DeviceFault>
         ensures moved { OnOk result (HasMoved (string_bytes going.now.partials)
             (string_bytes going.now.removed) self.old.calls self.new.calls
@@ -189,8 +189,8 @@ impl<H: Files + Drop> FolderFiles<H> {
         Ok(())
     }
 
-    /// The bytes of a resource's file, `None` where there is none. At the end of links there has to be a plain file.
-    /// `TooLarge`: it has more bytes than `most_bytes`.
+    /// Returns the bytes of a resource's file, or `None` if there is none. Links are followed, and must end at a
+    /// plain file. `TooLarge` means that it has more bytes than `most_bytes`.
     pub(crate) fn read<A: Allocator>(
         &self,
         alloc: A,
@@ -202,9 +202,9 @@ impl<H: Files + Drop> FolderFiles<H> {
         read_at(&self.calls, alloc, place.as_str(), resource, true)
     }
 
-    /// Writes beside the mark's file how many entries were published, and puts it there. It isn't synced: a crash may
-    /// leave an older mark, or none. `Moved`: another folder is at its path than the one that was opened, and nothing
-    /// was written.
+    /// Writes how many entries were published beside the mark's file, and puts it there. It isn't synced: a crash may
+    /// leave an older mark or none. `Moved` means that the folder at the path isn't the one that was opened; nothing
+    /// was written then.
     pub(crate) fn mark(&mut self, size: u64) -> Result<(), DeviceFault>
         ensures calls { Takes (marking (string_bytes self.old.root) (mark_text size))
             self.old.calls self.new.calls result }
@@ -223,7 +223,8 @@ impl<H: Files + Drop> FolderFiles<H> {
         put_over(&mut self.calls, aside, place, text.as_bytes(), false)
     }
 
-    /// How many entries the mark's file says were published, `None` where there is none, or it says no number.
+    /// Returns how many entries the mark's file says were published, or `None` if there is no such file or it has no
+    /// such number.
     pub(crate) fn read_mark(&self) -> Result<Option<u64>, DeviceFault> {
         let place = self.mark_place()?;
         let told = self.calls.metadata(place.as_str());
@@ -236,9 +237,9 @@ impl<H: Files + Drop> FolderFiles<H> {
 }
 
 impl<H: Files + Drop> FolderFiles<H> {
-    /// Puts all files that were written beside their places there. It waits for the disk: what it wrote outlasts a
-    /// crash. `Moved`: another folder is at its path than the one that was opened, and nothing was put there. After a
-    /// failure every call fails.
+    /// Puts all files that were written beside their places in place. Waits for the disk: they then outlast a crash.
+    /// `Moved` means that the folder at the path isn't the one that was opened; nothing was put in place then. After
+    /// an error every call fails.
     pub(crate) fn settle<D: SyncsTogether>(&mut self, disk: &D) -> Result<(), DeviceFault>
         ensures calls { Takes (settling (map move_of (vec_items self.old.staged))
             (map string_bytes (vec_items self.old.changed)))

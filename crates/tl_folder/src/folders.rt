@@ -8,14 +8,14 @@ ghost use Rattle.tl_folder.specs.Settling.{IsAbove, has_path};
 use std::alloc::{AllocError, Global};
 use std::path::Path;
 
-// A folder by what stands before a name in a path.
+// Returns a folder's path, given the part of a path before a name: `.` if that is empty.
 fn spelled(parent: &str) -> &str
     ensures { result.now ≡ spelled parent.now }
 {
     if parent.is_empty() { "." } else { parent }
 }
 
-/// The folder that a path is in, which a path of no name isn't.
+/// Returns the folder that a path is in, or `None` if the path has no name.
 pub(crate) fn folder_of(path: &str) -> Option<&str>
     ensures { option_copied result ≡ folder_of path.now }
 {
@@ -25,14 +25,14 @@ pub(crate) fn folder_of(path: &str) -> Option<&str>
     }
 }
 
-// Whether the folder is among these.
+// Reports whether the folder is in the list.
 fn has(folders: &[String], folder: &str) -> bool
     ensures { result ≡ has_path (map string_bytes folders.now) folder.now }
 {
     folders.iter().any(|it| it.as_str() == folder)
 }
 
-// Notes a folder, if it isn't noted yet.
+// Adds a folder to the list if it isn't there.
 #[tactic(auto, using(crate::proofs::Above::has_more, crate::proofs::Above::has_last))]
 fn note_folder(alloc: Global, folders: &mut Vec<String>, folder: &str) -> Result<(), AllocError>
     ensures kept { (it : step.Path) → IsTrue (has_path (map string_bytes (vec_items folders.old)) it)
@@ -46,7 +46,7 @@ fn note_folder(alloc: Global, folders: &mut Vec<String>, folder: &str) -> Result
     Ok(())
 }
 
-/// Notes the folders that change where a file is put in this place: its own, and those above it up to the root.
+/// Adds the folders that must be synced when a file is put in this place: its own, and those above it up to the root.
 pub(crate) fn note_folders(
     alloc: Global,
     folders: &mut Vec<String>,

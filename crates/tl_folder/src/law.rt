@@ -1,5 +1,5 @@
-//! What a crash leaves of files, whatever was there before: laws of the definitions alone, of which each function that
-//! makes the calls says that it made them.
+//! What a crash leaves of files, whatever was there before. These laws hold of the definitions alone; the contracts
+//! of the functions that make the calls say which calls they made.
 
 ghost use Rattle.std.specs.Prelude.{◌≡◌, ◌≢◌, ◌≤◌, ◌⊎◌, ℕ, List, ◌++◌, length, take, Option, Some, Contains};
 ghost use Rattle.std.specs.Path.{path_parent};
@@ -17,14 +17,14 @@ pub fn staged_files_have_their_bytes()
         → IsStaging path bytes calls → Becomes disk calls now → HasBytes (now path) bytes }
 {}
 
-/// To stage a file changes no other path, whatever comes of it. It computes nothing: its contract is the law.
+/// Staging a file changes no other path, whatever its outcome. It computes nothing: its contract is the law.
 pub fn staging_spares_other_files()
     ensures { (disk now : Disk) (path other : Path) (bytes : Bytes) (calls : List Call)
         → other ≢ path → IsAside path bytes calls → Becomes disk calls now
         → now other ≡ disk other }
 {}
 
-/// Once files are settled, each is at rest at its place with its new bytes. It computes nothing: its contract is the
+/// Once files are settled, each is at rest in its place with its new bytes. It computes nothing: its contract is the
 /// law.
 pub fn settled_files_are_at_rest()
     ensures { (disk now : Disk) (moves : List Move) (root : Path) (folders : List Path) (move : Move)
@@ -33,7 +33,7 @@ pub fn settled_files_are_at_rest()
         → Becomes disk (done (settling moves folders)) now → IsAtRest (now move.1) bytes }
 {}
 
-/// At each moment of a settling, and after one that failed, a crash leaves at each place what it might have left
+/// At each moment of a settling, and after one that failed, a crash leaves in each place what it might have left
 /// before, or the new bytes. It computes nothing: its contract is the law.
 pub fn settling_tears_no_file()
     ensures { (disk : Disk) (moves : List Move) (folders : List Path) (calls : List Call) (move : Move)
@@ -42,8 +42,8 @@ pub fn settling_tears_no_file()
         → MayLeave disk calls move.1 left → MayBe (disk move.1) left ⊎ (left ≡ Some bytes) }
 {}
 
-/// At each moment of a settling, and after one, a crash leaves at every other path what it might have left before.
-/// It computes nothing: its contract is the law.
+/// At each moment of a settling, and after one, a crash leaves at every other path what it might have left before. It
+/// computes nothing: its contract is the law.
 pub fn settling_spares_other_files()
     ensures { (disk : Disk) (moves : List Move) (folders : List Path) (calls : List Call) (other : Path)
         (left : Option Bytes) → IsElsewhere other moves → Begins (settling moves folders) calls
@@ -57,7 +57,7 @@ pub fn replaced_files_are_at_rest()
         → Becomes disk (done (replacing aside path bytes)) now → IsAtRest (now path) bytes }
 {}
 
-/// At each moment while a file is replaced, and after a failure, a crash leaves what it might have left before, or the
+/// At each moment while a file is replaced, and after an error, a crash leaves what it might have left before, or the
 /// new bytes. It computes nothing: its contract is the law.
 pub fn replacing_tears_no_file()
     ensures { (disk : Disk) (aside path : Path) (bytes : Bytes) (calls : List Call) (left : Option Bytes)
@@ -65,15 +65,15 @@ pub fn replacing_tears_no_file()
         → MayLeave disk calls path left → MayBe (disk path) left ⊎ (left ≡ Some bytes) }
 {}
 
-/// At each moment while a new file is put in its place, and after a failure, a crash leaves there what it might have
-/// left before, or all the bytes of the new one. It computes nothing: its contract is the law.
+/// At each moment while a new file is put in its place, and after an error, a crash leaves there what it might have
+/// left before, or all bytes of the new file. It computes nothing: its contract is the law.
 pub fn adding_tears_no_file()
     ensures { (disk : Disk) (aside place : Path) (bytes : Bytes) (calls : List Call) (left : Option Bytes)
         → place ≢ aside → IsAdding aside place bytes calls
         → MayLeave disk calls place left → MayBe (disk place) left ⊎ (left ≡ Some bytes) }
 {}
 
-/// Once a file of lines is open, it has the first so many bytes that it had, and a crash leaves nothing else. It
+/// Once a file of lines is open, it has the first `count` bytes that it had, and a crash leaves nothing else. It
 /// computes nothing: its contract is the law.
 pub fn opened_lines_are_at_rest()
     ensures { (disk now : Disk) (path folder : Path) (count : ℕ) → folder_of path ≡ Some folder
@@ -81,8 +81,8 @@ pub fn opened_lines_are_at_rest()
         → IsAtRest (now path) (take count (bytes_there (disk path).there)) }
 {}
 
-/// At each moment of the opening of a file of lines, a crash leaves what of the first so many bytes it was sure to
-/// leave before. It computes nothing: its contract is the law.
+/// Take bytes that a crash was sure to leave at the beginning of a file of lines, at most the first `count`. At each
+/// moment while the file is opened, a crash still leaves them. It computes nothing: its contract is the law.
 pub fn opening_loses_no_line()
     ensures { (disk : Disk) (path : Path) (front : Bytes) (count : ℕ) (calls : List Call)
         (left : Option Bytes) → LeavesFront (disk path) front → length front ≤ count
@@ -97,15 +97,15 @@ pub fn appended_lines_are_at_rest()
         → Becomes disk (done (appending path more)) now → IsAtRest (now path) (old ++ more) }
 {}
 
-/// At each moment while bytes are appended, and after a failure, a crash leaves what it was sure to leave before. It
-/// computes nothing: its contract is the law.
+/// At each moment while bytes are appended, and after an error, a crash leaves at the beginning what it was sure to
+/// leave before. It computes nothing: its contract is the law.
 pub fn appending_loses_no_line()
     ensures { (disk : Disk) (path : Path) (old more : Bytes) (calls : List Call) (left : Option Bytes)
         → LeavesFront (disk path) old → Begins (appending path more) calls
         → MayLeave disk calls path left → (rest : Bytes) × (left ≡ Some (old ++ rest)) }
 {}
 
-/// A crash leaves of a file that is at rest its bytes, and nothing else. It computes nothing: its contract is the law.
+/// A crash leaves a file that is at rest with exactly its bytes. It computes nothing: its contract is the law.
 pub fn files_at_rest_outlast_a_crash()
     ensures { (disk : Disk) (path : Path) (bytes : Bytes) (left : Option Bytes)
         → IsAtRest (disk path) bytes → MayBe (disk path) left → left ≡ Some bytes }

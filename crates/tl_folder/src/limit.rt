@@ -1,12 +1,12 @@
-//! How long a resource may be.
+//! The largest size of a resource.
 
 ghost use Rattle.std.specs.Prelude.{◌≡◌};
 ghost use Rattle.tl_folder.specs.Limits.{most_bytes};
 
 use tl_tile::Resource;
 
-/// The most bytes that are taken of a resource: of a tile 256 hashes, of a bundle 256 of the longest entries with their
-/// lengths (C2SP tlog-tiles), of a checkpoint 65,536.
+/// Returns the most bytes that are read of a resource: for a tile 256 hashes, for a bundle 256 of the longest entries
+/// with their length prefixes (C2SP tlog-tiles), for a checkpoint 65,536.
 pub fn most_bytes(resource: &Resource) -> u64
     ensures { result ≡ most_bytes resource.now }
 {

@@ -1,4 +1,4 @@
-//! A file of lines that is read as it comes, whatever its length.
+//! A file of lines of any length, read as a stream.
 
 ghost use Rattle.std.specs.Prelude.{◌≡◌, [], None, IfOk, true};
 ghost use Rattle.tl_device.specs.Device.{passage};
@@ -14,11 +14,11 @@ use std::fs::{File, Files, OpenFile, OpenOptions};
 use std::io::Read;
 use tl_device::{Counted, DeviceFault, InputFault};
 
-// How many bytes are too many, 2^62.
+// A file must be shorter than this: 2^62 bytes.
 const MOST_BYTES: u64 = 4_611_686_018_427_387_904;
 
-/// How many of the first bytes that the reader gives, to its end, are whole lines. It fails where a read fails, and
-/// where there are 2^62 bytes.
+/// Reads to the end and returns the length of the whole lines that the reader gives. It fails if a read fails or
+/// there are 2^62 bytes.
 pub(crate) fn whole_length<R: Read>(reader: &mut Counted<R>) -> Result<u64, InputFault>
     ensures { MeasuresLines (passage R.remaining reader.old reader.new) result }
 {
@@ -41,19 +41,19 @@ pub(crate) fn whole_length<R: Read>(reader: &mut Counted<R>) -> Result<u64, Inpu
     Err(InputFault::TooLarge)
 }
 
-/// A file of lines: what it has, and the file to append to.
+/// A file of lines: the lines to read, and the file to append to.
 #[derive(Drop)]
 pub struct LineStream<'f, H: Files> {
-    /// The lines that it has, each with its newline, from the first on. They are to be read before more are appended.
+    /// The file's lines from the first on, each with its newline. Read them before more are appended.
     pub lines: File,
-    /// How many bytes they have.
+    /// The number of bytes of these lines.
     pub length: u64,
-    /// The same file, after them.
+    /// The same file, positioned after them.
     pub end: DurableAppend<'f, H>,
 }
 
-// Cuts off a last line without a newline from the file that is locked, whose bytes the reader gives, and has the rest and
-// the name outlast a crash. It tells how many bytes are left.
+// Cuts a last line without a newline off the locked file, whose bytes the reader gives, and syncs the rest and the
+// name. Returns how many bytes are left.
 fn cut_lines<H: Files<File = File>, R: Read>(
     calls: &mut SystemCalls<H>,
     path: &str,
@@ -70,7 +70,7 @@ fn cut_lines<H: Files<File = File>, R: Read>(
     Ok(length)
 }
 
-// Opens the file that is locked once more, from its first byte on.
+// Opens the locked file once more, from its first byte on.
 fn open_again<H: Files<File = File>>(
     files: &H,
     path: &str,
@@ -83,9 +83,10 @@ fn open_again<H: Files<File = File>>(
     Ok(file)
 }
 
-/// The file of lines at this path, which is made where there is none, and locked. A last line without a newline, as a
-/// crash leaves it, is cut off. `Busy`: another process has it. `NotPlain`: something else than a plain file is there,
-/// as a link. `Moved`: another file came to the path meanwhile. `TooLarge`: it has 2^62 bytes.
+/// Opens and locks the file of lines at this path, which is made if it isn't there. A last line without a newline,
+/// which a crash may leave, is cut off. `Busy` means that another process has the file; `NotPlain` that something
+/// else than a plain file, such as a symbolic link, is there; `Moved` that another file took the path meanwhile;
+/// `TooLarge` that it has 2^62 bytes.
 pub fn stream_lines<'f, H: Files<File = File>>(
     files: &'f H,
     path: &'f str,

@@ -19,8 +19,8 @@ use std::io::{ErrorKind, Write};
 use std::marker::Model;
 use tl_device::DeviceFault;
 
-/// A file that is appended to: a write answers once what it took outlasts a crash, as far as the system says. Where
-/// another file is at its path, or none, a write fails, and nothing is written. Contracts see the calls of the system.
+/// A file that is appended to. A write returns once its bytes outlast a crash, as far as the system says. If the file
+/// at the path is another one, or none, a write fails, and nothing is written. Contracts see the system calls.
 #[derive(Drop)]
 pub struct DurableAppend<'f, H: Files> {
     calls: SystemCalls<&'f H>,
@@ -40,7 +40,7 @@ impl<'f, H: Files> Model for DurableAppend<'f, H> {
 }
 
 impl<'f, H: Files> DurableAppend<'f, H> {
-    /// The file that was opened by this path and locked, by these calls.
+    /// Returns the file that was opened by this path and locked, by these calls.
     pub(crate) fn new(calls: SystemCalls<&'f H>, path: &'f str, locked: LockedFile) -> Self
         ensures { result ≡ record {
           path = path.now;
@@ -58,16 +58,16 @@ impl<'f, H: Files> DurableAppend<'f, H> {
         }
     }
 
-    /// Why the last write failed, if it did.
+    /// Returns why the last write failed, if it did.
     pub fn fault(&self) -> Option<DeviceFault>
         ensures { result ≡ self.now.fault }
     {
         self.fault
     }
 
-    /// Puts a new file with these bytes in the place of this one, once they outlast a crash, and has the name outlast
-    /// one. From then on this one is at no path: a write to it is `Moved`. The lock stays on it while it is open, and
-    /// none is on the new one. After a failure the file at the path is this one or the new one.
+    /// Writes a new file with these bytes beside this one and puts it in this one's place, so that bytes and name
+    /// outlast a crash. From then on this file is at no path: a write to it fails with `Moved`. It stays locked while
+    /// it is open, and the new one isn't locked. After an error the path has this file or the new one.
     pub fn replace(&mut self, alloc: Global, bytes: &[u8]) -> Result<(), DeviceFault>
         ensures path { self.new.path ≡ self.old.path }
         ensures written { self.new.written ≡ self.old.written }
@@ -81,7 +81,7 @@ impl<'f, H: Files> DurableAppend<'f, H> {
     }
 }
 
-// Appends some of the bytes to the file that is at this path, and has them outlast a crash.
+// Appends some of the bytes to the file, if it is still at this path, and syncs them.
 fn append_some<H: Files<File = File>>(
     calls: &mut SystemCalls<H>,
     path: &str,
@@ -129,7 +129,7 @@ impl<'f, H: Files<File = File>> Write for DurableAppend<'f, H> {
     }
 }
 
-/// How many of the first bytes are whole lines.
+/// Returns the length of the whole lines at the beginning of the bytes.
 pub(crate) fn whole_front(bytes: &[u8]) -> usize
     ensures { IsWholeFront bytes.now result }
 {

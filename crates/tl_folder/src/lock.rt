@@ -1,7 +1,6 @@
-//! Locks on folders and files, so that one process alone writes there. A lock is on what is open, and what is written
-//! is opened by its path: where another folder or file came to the path, a second process can lock that one too. So
-//! each that writes looks first whether what is locked is still at its path. The look and what follows it are two
-//! calls.
+//! Locks on folders and files, so that only one process writes there. A lock is on the open file or folder, but what
+//! is written is opened by its path. If another folder or file takes the path, a second process can lock that one. So
+//! every write first checks that what is locked is still at its path. The check and the write are two calls.
 
 ghost use Rattle.std.specs.Prelude.{◌≡◌, true, [], ◌∷◌, IfOk, IsOk, OnOk};
 ghost use Rattle.tl_folder.specs.Step as step;
@@ -27,8 +26,8 @@ pub(crate) struct LockedFile {
 }
 
 impl LockedFile {
-    /// Opens the file at this path in this way, and locks it. `Busy`: another process has it. `NotPlain`: something
-    /// else than a plain file is there, as a link.
+    /// Opens the file at this path with these options and locks it. `Busy` means that another process has it;
+    /// `NotPlain` that something else than a plain file, such as a symbolic link, is there.
     pub(crate) fn open<H: Files<File = File>>(
         calls: &mut SystemCalls<H>,
         how: &OpenOptions,
@@ -45,7 +44,7 @@ impl LockedFile {
         Ok(locked)
     }
 
-    /// Fails with `Moved` where it isn't at a path any more, by what the system told of the path.
+    /// Fails with `Moved` if the file is no longer at a path, given the path's metadata.
     pub(crate) fn check_at(&self, told: io::Result<Metadata>) -> Result<(), DeviceFault>
         ensures { OnOk result (IsOk told) }
     {
@@ -53,8 +52,8 @@ impl LockedFile {
     }
 }
 
-/// A lock on a folder. It is given back where it is dropped, and where the process ends in any way. Contracts see the
-/// path by which the folder was locked.
+/// A lock on a folder. It is released when it is dropped, or when the process ends in any way. Contracts see the path
+/// by which the folder was locked.
 #[derive(Drop)]
 pub struct FolderLock {
     folder: OpenedFile<File>,
@@ -71,7 +70,7 @@ impl Model for FolderLock {
 }
 
 impl FolderLock {
-    // Whether the folder that is locked is the one of which the system told this.
+    // Reports whether this is the metadata of the locked folder.
     fn is_told(&self, told: io::Result<Metadata>) -> bool {
         let Ok(metadata) = self.folder.metadata() else {
             return false;
@@ -79,13 +78,13 @@ impl FolderLock {
         FileId::of(&metadata).check(told).is_ok()
     }
 
-    /// Whether the folder at this path, at the end of links, is the one that is locked.
+    /// Reports whether the folder at this path, with links followed, is the locked one.
     pub fn is_at<H: Files>(&self, files: &H, path: &str) -> bool {
         self.is_told(files.metadata(path))
     }
 }
 
-// Locks the folder at this path, which is made where it isn't there.
+// Locks the folder at this path, which is made if it isn't there.
 fn lock_by<H: Files<File = File>>(
     calls: &mut SystemCalls<H>,
     path: &str,
@@ -107,8 +106,8 @@ fn lock_by<H: Files<File = File>>(
     Ok(lock)
 }
 
-/// Locks the folder at this path, which is made where it isn't there. `Busy`: another process has it. `Moved`: another
-/// folder came to the path meanwhile.
+/// Locks the folder at this path, which is made if it isn't there. `Busy` means that another process has it; `Moved`
+/// that another folder took the path meanwhile.
 pub fn lock_folder<H: Files<File = File>>(files: &H, path: &str) -> Result<FolderLock, DeviceFault>
     ensures { IfOk result (λ lock. lock.place ≡ path.now) }
 {

@@ -1,6 +1,6 @@
-//! A look at a path before it is opened. To open a pipe may take for ever, and to open a device may do anything, so
-//! what isn't as it should be is never opened. The look and the open are two calls, since std has no open that refuses
-//! a link and doesn't wait for a pipe: what comes to the path in between is opened all the same.
+//! Checking what is at a path before it is opened. Opening a pipe may block forever and opening a device may do
+//! anything, so only what is expected is opened. The check and the open are two calls, since std has no open that
+//! rejects a symbolic link and doesn't wait for a pipe. What takes the path in between is opened all the same.
 
 ghost use Rattle.std.specs.Prelude.{◌≡◌, ◌≢◌, ◌↔◌, true, false, IfErr, IfOk, IsErrAnd, IsOkAnd, IsTrue, MatchResult, OnOk, OnSome};
 ghost use Rattle.std.specs.Fs.{IsDir, IsFile, file_type};
@@ -12,7 +12,8 @@ use std::io;
 use std::io::ErrorKind;
 use tl_device::DeviceFault;
 
-// Whether a plain file is at a path, by what the system told of it. `NotPlain`: something else is there.
+// Reports whether a plain file is at a path, given the path's metadata. `NotPlain` means that something else is
+// there.
 fn is_plain(told: io::Result<Metadata>) -> Result<bool, DeviceFault>
     ensures plain { (result ≡ Ok true) ↔ IsOkAnd told (λ m. IsFile (file_type m)) }
     ensures none { (result ≡ Ok false) ↔ IsErrAnd told (λ e. error_kind e ≡ ErrorKind.NotFound) }
@@ -28,7 +29,8 @@ fn is_plain(told: io::Result<Metadata>) -> Result<bool, DeviceFault>
     }
 }
 
-/// Fails where something is at a path that isn't a plain file, by what the system told of it; a link isn't one.
+/// Fails if something other than a plain file is at a path, given the path's metadata. A symbolic link is no plain
+/// file.
 pub(crate) fn check_plain(told: io::Result<Metadata>) -> Result<(), DeviceFault>
     ensures { OnOk result (MatchResult told
         (λ m. IsFile (file_type m)) (λ e. error_kind e ≡ ErrorKind.NotFound)) }
@@ -37,7 +39,7 @@ pub(crate) fn check_plain(told: io::Result<Metadata>) -> Result<(), DeviceFault>
     Ok(())
 }
 
-/// Whether nothing is at a path, by what the system told of it.
+/// Reports whether nothing is at a path, given the path's metadata.
 pub(crate) fn is_free(told: io::Result<Metadata>) -> bool
     ensures { IsTrue result ↔ IsErrAnd told (λ e. error_kind e ≡ ErrorKind.NotFound) }
 {
@@ -47,7 +49,7 @@ pub(crate) fn is_free(told: io::Result<Metadata>) -> bool
     }
 }
 
-/// Whether a folder is at a path, or nothing, by what the system told of it.
+/// Reports whether a folder or nothing is at a path, given the path's metadata.
 pub(crate) fn is_folder_or_free(told: io::Result<Metadata>) -> bool
     ensures { IsTrue result ↔ MatchResult told
         (λ m. IsDir (file_type m)) (λ e. error_kind e ≡ ErrorKind.NotFound) }
@@ -58,7 +60,7 @@ pub(crate) fn is_folder_or_free(told: io::Result<Metadata>) -> bool
     }
 }
 
-/// Whether a folder is at a path, by what the system told of it.
+/// Reports whether a folder is at a path, given the path's metadata.
 pub(crate) fn is_folder(told: io::Result<Metadata>) -> bool
     ensures { IsTrue result ↔ IsOkAnd told (λ m. IsDir (file_type m)) }
 {
@@ -68,8 +70,8 @@ pub(crate) fn is_folder(told: io::Result<Metadata>) -> bool
     }
 }
 
-/// Opens the plain file at a path of which the system told this, and follows a link if `told` did. `None`: nothing is
-/// there.
+/// Opens the plain file at a path, given the path's metadata, or returns `None` if nothing is there. A symbolic link
+/// is followed if the metadata is that of its target.
 pub(crate) fn open_plain<H: Files>(
     files: &H,
     path: &str,
@@ -88,7 +90,7 @@ pub(crate) fn open_plain<H: Files>(
     }
 }
 
-/// Opens the folder at a path, and follows links. Anything else there is not opened.
+/// Opens the folder at a path, following links. Anything else is not opened.
 pub(crate) fn open_folder<H: Files>(files: &H, path: &str) -> Result<H::File, DeviceFault> {
     if !files.metadata(path)?.is_dir() {
         return Err(DeviceFault::NotFolder);

@@ -1,4 +1,4 @@
-//! Folders that are made, with those above them where they aren't there.
+//! Making folders, with those above them if they aren't there.
 
 ghost use Rattle.tl_folder.specs.FileCalls.{Does};
 ghost use Rattle.tl_folder.specs.Settling.{naming_if};
@@ -11,7 +11,7 @@ use std::fs::Files;
 use std::path::Path;
 use tl_device::DeviceFault;
 
-/// Has the name of a file or folder at this path outlast a crash, where names are to.
+/// If `are_named`, syncs the folder that this path is in, so that the path's name outlasts a crash.
 pub(crate) fn name_if<H: Files>(
     calls: &mut SystemCalls<H>,
     path: &str,
@@ -26,7 +26,7 @@ pub(crate) fn name_if<H: Files>(
     }
 }
 
-// Makes the folder at this path where none is there. Whether one is there then: none is where that above it isn't.
+// Makes the folder at this path if there is none. Returns false if the folder above it isn't there.
 fn ask_for<H: Files>(
     calls: &mut SystemCalls<H>,
     path: &str,
@@ -49,8 +49,8 @@ fn ask_for<H: Files>(
     }
 }
 
-/// Makes the folder at this path, and those above it, where they aren't there. Where `are_named`, the name of each that
-/// was made is synced in the folder above it, before anything else is asked.
+/// Makes the folder at this path, and those above it, if they aren't there. If `are_named`, the name of each new
+/// folder is synced in the one above it before anything else is asked.
 #[tactic(auto, using(crate::proofs::Above::fewer_above))]
 pub(crate) fn make_folders<H: Files>(
     calls: &mut SystemCalls<H>,

@@ -1,4 +1,4 @@
-//! Files that are written beside their places, and put there over what they had.
+//! Writing a file beside its place and putting it there, over what is there.
 
 ghost use Rattle.tl_folder.specs.FileCalls.{Does, Takes};
 ghost use Rattle.tl_folder.specs.Inner.Over.{putting, syncing_if};
@@ -9,7 +9,7 @@ use crate::system::SystemCalls;
 use std::fs::Files;
 use tl_device::DeviceFault;
 
-// Has what a file has outlast a crash, where it is to.
+// Syncs a file if `is_lasting`.
 fn sync_if<H: Files>(
     calls: &mut SystemCalls<H>,
     path: &str,
@@ -20,9 +20,9 @@ fn sync_if<H: Files>(
     if is_lasting { calls.sync(path) } else { Ok(()) }
 }
 
-/// Writes bytes beside the place of a file and then puts them there. Where they are to last, it puts them there once
-/// they outlast a crash, and then has the name outlast one. `NotPlain`: beside it is something else than a plain file,
-/// as a link, and nothing was written.
+/// Writes bytes beside the place of a file and renames the file to its place. If `is_lasting`, the bytes are synced
+/// before the rename and the name after it. `NotPlain` means that something else than a plain file, such as a
+/// symbolic link, is beside the place; nothing was written then.
 pub(crate) fn put_over<H: Files>(
     calls: &mut SystemCalls<H>,
     aside: &str,

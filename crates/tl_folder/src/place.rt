@@ -1,4 +1,4 @@
-//! Where the files of resources are, and where they are written before they are put there.
+//! The paths of resources' files, and the paths where files are first written.
 
 ghost use Rattle.std.specs.Prelude.{◌≡◌, ◌↔◌, string_bytes, IfOk, IsTrue};
 ghost use Rattle.tl_tile.specs.Path.{IsResource};
@@ -9,7 +9,7 @@ use std::alloc::{AllocError, Allocator};
 use tl_client::is_tile;
 use tl_tile::{Resource, path_of};
 
-/// A text, a slash and the path of a resource.
+/// Returns `front`, a slash and the path of a resource.
 pub fn path_under<A: Allocator + Copy>(
     alloc: A,
     front: &str,
@@ -24,7 +24,7 @@ pub fn path_under<A: Allocator + Copy>(
     Ok(path)
 }
 
-/// Whether a log serves this resource under a path (C2SP tlog-tiles).
+/// Reports whether a resource has a path, under which a log may serve it (C2SP tlog-tiles).
 pub fn has_path(resource: &Resource) -> bool
     ensures { IsTrue result ↔ IsResource resource.now }
 {
@@ -35,7 +35,7 @@ pub fn has_path(resource: &Resource) -> bool
     }
 }
 
-/// Where the file with this place is written before it is put there.
+/// Returns the path at which the file for this place is first written.
 pub(crate) fn beside<A: Allocator>(alloc: A, place: &str) -> Result<String<A>, AllocError>
     ensures { IfOk result (λ path. string_bytes path ≡ new_path place.now) }
 {

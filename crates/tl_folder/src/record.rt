@@ -1,4 +1,4 @@
-//! The calls of a folder so far, for clauses alone.
+//! The calls of a folder so far. Only contracts see them.
 
 ghost use Rattle.std.specs.Prelude.{◌≡◌, [], ◌∷◌, ◌++◌, map};
 ghost use Rattle.tl_folder.specs.Events.{noted};
@@ -7,7 +7,7 @@ use crate::call_outcome::CallOutcome;
 use http_server::Log;
 use std::marker::Model;
 
-/// What came of each call so far. It takes no memory.
+/// The outcome of each call so far. It takes no memory at run time.
 #[derive(Drop)]
 pub(crate) struct Record {
     log: Log<CallOutcome, Log<(), u8>>,
@@ -22,7 +22,7 @@ impl Model for Record {
     ghost view = { λ r. map seen.event_of r.log.items };
 }
 
-/// Notes bytes, for clauses alone.
+/// Adds bytes to a note that only contracts see.
 pub(crate) fn note_bytes(note: &mut Log<(), u8>, bytes: &[u8])
     ensures { noted note.new ≡ noted note.old ++ bytes.now }
 {
@@ -31,7 +31,7 @@ pub(crate) fn note_bytes(note: &mut Log<(), u8>, bytes: &[u8])
     }
 }
 
-/// A note of bytes.
+/// Returns a note of bytes.
 pub(crate) fn note_of(bytes: &[u8]) -> Log<(), u8>
     ensures { noted result ≡ bytes.now }
 {
@@ -41,14 +41,14 @@ pub(crate) fn note_of(bytes: &[u8]) -> Log<(), u8>
 }
 
 impl Record {
-    /// No call yet.
+    /// Returns an empty record.
     pub(crate) fn new() -> Record
         ensures { result ≡ [] }
     {
         Record { log: Log::new() }
     }
 
-    /// Notes what came of a call, and the bytes that it staged.
+    /// Adds the outcome of a call, with the bytes that it staged.
     pub(crate) fn note(&mut self, step: CallOutcome, bytes: &[u8])
         ensures { self.new ≡ self.old ++ (step, bytes.now) ∷ [] }
     {

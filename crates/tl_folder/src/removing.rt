@@ -1,4 +1,4 @@
-//! How the folder of partial tiles or bundles is removed: it is moved to another path in one step, and removed there.
+//! Removing the folder of partial tiles or bundles: it is moved to another path in one step, and removed there.
 
 ghost use Rattle.std.specs.Prelude.{◌≡◌, ◌⊎◌, ◌↔◌, true, false, IfErr, IsOk, OnOk, OnErr};
 ghost use Rattle.tl_folder.specs.Removing.{HasMoved, HasNotMoved};
@@ -8,14 +8,14 @@ use std::alloc::Global;
 use std::fs::Files;
 use tl_device::DeviceFault;
 
-/// The folder of the partial ones of a full tile or bundle, and where it is moved before it is removed.
+/// The folder of the partial tiles or bundles of a full one, and the path that it is moved to before it is removed.
 #[derive(Drop)]
 pub(crate) struct Going {
     pub(crate) partials: String,
     pub(crate) removed: String,
 }
 
-// Whether a folder was there, by what came of the call that moved it away.
+// Reports whether a folder was there, given the outcome of the call that moved it.
 fn was_there(outcome: Result<(), DeviceFault>) -> Result<bool, DeviceFault>
     ensures there { (result ≡ Ok true) ↔ IsOk outcome }
     ensures none { (result ≡ Ok false) ↔ (outcome ≡ Err DeviceFault.NotThere) }
@@ -28,8 +28,8 @@ fn was_there(outcome: Result<(), DeviceFault>) -> Result<bool, DeviceFault>
     }
 }
 
-/// Moves a folder to the second path, if it is there, and removes it there, which a crash may undo, or a failure leave
-/// undone. So a folder that is at the second path is removed first; where that fails, the move does.
+/// Moves a folder to the second path, if it is there, and removes it there. A crash or an error may leave it at the
+/// second path, so what is there is removed first; if that fails, the move fails, too.
 pub(crate) fn remove_moved<H: Files>(
     calls: &mut SystemCalls<H>,
     alloc: Global,

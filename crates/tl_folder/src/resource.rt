@@ -12,8 +12,8 @@ use std::fs::Files;
 use tl_device::DeviceFault;
 use tl_tile::Resource;
 
-/// The bytes of the plain file of a resource at this place, at most `most_bytes`; `None` where nothing is there. A link
-/// is followed, or it counts as no plain file.
+/// Returns the bytes of the plain file at this place, at most `most_bytes`, or `None` if nothing is there. A symbolic
+/// link is followed, or counts as no plain file.
 pub(crate) fn read_at<H: Files, A: Allocator>(
     calls: &SystemCalls<H>,
     alloc: A,
@@ -32,9 +32,10 @@ pub(crate) fn read_at<H: Files, A: Allocator>(
     calls.read(alloc, place, told, most_bytes(resource))
 }
 
-/// The bytes of a resource's file under a folder, at most `most_bytes`; a link is followed, or it counts as no plain
-/// file. `NotThere`: nothing is there. `NotPlain`: something else than a plain file is there, and isn't opened: that of
-/// a FIFO waits for a writer, and a device may have no end. `TooLarge`: it has more bytes. The path is made in `own`.
+/// Returns the bytes of a resource's file under a folder, at most `most_bytes`. A symbolic link is followed, or
+/// counts as no plain file. `NotThere` means that nothing is there; `NotPlain` that something else than a plain file
+/// is there, which isn't opened, since a FIFO would wait for a writer and a device may have no end; `TooLarge` that
+/// the file has more bytes. The path is allocated in `own`.
 pub fn read_resource<A: Allocator, H: Files>(
     alloc: A,
     own: Global,

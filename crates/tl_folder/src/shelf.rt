@@ -1,5 +1,5 @@
-//! A shelf in a folder. A file is written beside its place under the name with `.new`. The mark is the number in decimal
-//! and a newline.
+//! A shelf in a folder. A file is first written beside its place, under its name with `.new` added. The mark is the
+//! number in decimal and a newline.
 
 ghost use Rattle.std.specs.Prelude.{◌≡◌, [], ◌∷◌, ◌++◌, IfOk, OnOk, OnErr};
 ghost use Rattle.tl_folder.specs.Folders.{IsOver};
@@ -17,11 +17,11 @@ use tl_archive::{Shelf, ShelfFault};
 use tl_device::DeviceFault;
 use tl_tile::Resource;
 
-/// A folder with a log in the layout of C2SP tlog-tiles: the path of each resource is that of its file, and the number
-/// of entries that were published stands in `published`. Partial tiles and bundles lie in one folder for each full one,
-/// moved to the path `removed` in one step to be removed. Where a settling or such a move fails, each
-/// later call fails: what outlasts a crash isn't known then. Where another folder came to its path, all that writes
-/// fails, and nothing is written there.
+/// A folder with a log in the layout of C2SP tlog-tiles: each resource is the file at its path, and the file
+/// `published` has the number of published entries. The partial tiles or bundles of a full one are in one folder; to
+/// remove them it is moved to the path `removed` in one step. After a settling or such a move failed, every call
+/// fails, since it isn't known what outlasts a crash. If another folder has taken its path, writes fail and write
+/// nothing.
 #[derive(Drop)]
 pub struct FolderShelf<D, H> {
     disk: D,
@@ -52,7 +52,8 @@ impl<D, H> Model for FolderShelf<D, H> {
     } };
 }
 
-// That the folder failed over a resource. Where another folder came to its path, the fault is over all of it.
+// Returns the fault that the folder failed for a resource. If another folder took its path, the fault is for no
+// single resource.
 fn fault_over(resource: &Resource, why: DeviceFault) -> ShelfFault
     ensures why { result.why ≡ why }
     ensures over { IsOver resource.now result }
@@ -68,7 +69,7 @@ impl<D: CrashOutcome + Drop, H: Files + Drop> FolderShelf<D, H> {
     ghost use Rattle.std.specs.Prelude.{None};
     ghost use Rattle.tl_folder.specs.Settling.{OpensFolder};
 
-    /// The folder at this path, which is made where it isn't there.
+    /// Opens the folder at this path, which is made if it isn't there.
     pub fn open(
         disk: D,
         files: H,

@@ -1,5 +1,5 @@
-//! What a crash leaves of a shelf in a folder: laws of the definitions alone, over the calls that `FolderShelf` says
-//! that it made.
+//! What a crash leaves of a shelf in a folder. These laws hold of the definitions alone, over the calls that the
+//! contracts of `FolderShelf` name.
 
 ghost use Rattle.std.specs.Prelude.{◌≡◌, ◌⊎◌, true, List, [], ◌∷◌, ◌++◌, Option, None};
 ghost use Rattle.tl_tile.specs.declared.resource.Resource.{Resource};
@@ -16,7 +16,7 @@ ghost use Rattle.tl_folder.specs.Settling.{AreCovered, IsAside, marking, new_pat
 ghost use Rattle.tl_folder.specs.Folders.{is_partial_of, put, without};
 ghost use Rattle.tl_folder.specs.OnDisk.{AreOnce, AreStaged, Reflects, ReflectsEither, ReflectsSome, moves_of};
 
-/// To stage bytes for a resource, whatever comes of it, changes the file of no resource. It computes nothing: its
+/// Staging bytes for a resource, whatever the outcome, changes the file of no resource. It computes nothing: its
 /// contract is the law.
 pub fn staging_spares_each_resource()
     ensures { (disk now : Disk) (root : Path) (r s : Resource) (bytes : Bytes) (calls : List Call)
@@ -24,8 +24,8 @@ pub fn staging_spares_each_resource()
         → Becomes disk calls now → now (place_of root s) ≡ disk (place_of root s) }
 {}
 
-/// To mark how many entries were published, whatever comes of it, changes the file of no resource. It computes nothing:
-/// its contract is the law.
+/// Marking how many entries were published, whatever the outcome, changes the file of no resource. It computes
+/// nothing: its contract is the law.
 pub fn marking_spares_each_resource()
     ensures { (disk now : Disk) (root : Path) (s : Resource) (bytes : Bytes) (calls : List Call)
         → IsResource s → Begins (marking root bytes) calls
@@ -44,7 +44,7 @@ pub fn settling_shelves_tear_nothing()
 {}
 
 /// Once what was staged is settled, a crash leaves under each resource the bytes that were staged for it, or what was
-/// held where none were, and nothing else. It computes nothing: its contract is the law.
+/// held if none were staged, and nothing else. It computes nothing: its contract is the law.
 pub fn settled_shelves_outlast_a_crash()
     ensures { (root : Path) (held : Held) (items : List Item) (folders : List Path)
         (calls : List Call) (disk now : Disk) → Reflects root held disk
@@ -54,8 +54,8 @@ pub fn settled_shelves_outlast_a_crash()
         → Reflects root (put items held) now }
 {}
 
-/// To remove the partial ones of a full tile or bundle, whatever comes of it, changes the file of no other resource. It
-/// computes nothing: its contract is the law.
+/// Removing the partial tiles or bundles of a full one, whatever the outcome, changes the file of no other resource.
+/// It computes nothing: its contract is the law.
 pub fn removing_spares_other_resources()
     ensures { (disk now : Disk) (root : Path) (full s : Resource) (calls : List Call)
         → IsFull full → IsResource s → ¬ IsPartialOf full s
@@ -63,8 +63,8 @@ pub fn removing_spares_other_resources()
         → Becomes disk calls now → now (place_of root s) ≡ disk (place_of root s) }
 {}
 
-/// Once the folder of the partial ones of a full tile or bundle was moved away, a crash leaves none of them, whatever
-/// came of the calls before, and comes of the removal after it. It computes nothing: its contract is the law.
+/// Once the folder of a full one's partial tiles or bundles was moved away, a crash leaves none of them, whatever the
+/// outcome of the calls before and of the removal after. It computes nothing: its contract is the law.
 pub fn removed_partials_stay_away()
     ensures { (disk now : Disk) (root : Path) (full s : Resource) (before more : List Call)
         (left : Option Bytes) → IsFull full → IsPartialOf full s
@@ -74,8 +74,8 @@ pub fn removed_partials_stay_away()
         → MayBe (now (place_of root s)) left → left ≡ None }
 {}
 
-/// At each moment of a removal, and after one that failed, a crash leaves of each partial one what it might have left
-/// before, or nothing. It computes nothing: its contract is the law.
+/// At each moment of a removal, and after one that failed, a crash leaves of each partial tile or bundle what it
+/// might have left before, or nothing. It computes nothing: its contract is the law.
 pub fn removing_tears_nothing()
     ensures { (disk now : Disk) (root : Path) (full s : Resource) (calls : List Call)
         (left : Option Bytes) → IsFull full → IsPartialOf full s
@@ -84,8 +84,8 @@ pub fn removing_tears_nothing()
         → MayBe (disk (place_of root s)) left ⊎ (left ≡ None) }
 {}
 
-/// At each moment of a removal, and after one that failed, a crash leaves under each resource what was held, or nothing
-/// of a partial one. It computes nothing: its contract is the law.
+/// At each moment of a removal, and after one that failed, a crash leaves under each resource what was held, or
+/// nothing of a partial one. It computes nothing: its contract is the law.
 pub fn removing_shelves_tear_nothing()
     ensures { (root : Path) (held : Held) (full : Resource) (calls : List Call) (disk now : Disk)
         → IsFull full → Reflects root held disk
@@ -93,8 +93,8 @@ pub fn removing_shelves_tear_nothing()
         → Becomes disk calls now → ReflectsSome root full held now }
 {}
 
-/// Once the folder of the partial ones was moved and removed, a crash leaves none of them, and under each other
-/// resource what was held, and nothing else. It computes nothing: its contract is the law.
+/// Once the folder of the partial tiles or bundles was moved and removed, a crash leaves none of them, and under each
+/// other resource what was held and nothing else. It computes nothing: its contract is the law.
 pub fn removed_shelves_outlast_a_crash()
     ensures { (root : Path) (held : Held) (full : Resource) (calls : List Call) (disk now : Disk)
         → IsFull full → Reflects root held disk

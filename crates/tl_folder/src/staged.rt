@@ -1,4 +1,4 @@
-//! Files that are written beside their places, and how they are put there together.
+//! Writing files beside their places, and putting them in place together.
 
 ghost use Rattle.std.specs.Prelude.{map, string_bytes, ◌++◌};
 ghost use Rattle.tl_folder.specs.FileCalls.{Does};
@@ -21,7 +21,7 @@ pub(crate) struct Staged {
     pub(crate) place: String,
 }
 
-/// Has what each of the files has outlast a crash, one after another.
+/// Syncs the files, one after another.
 pub(crate) fn sync_staged<H: Files>(
     calls: &mut SystemCalls<H>,
     staged: &[Staged],
@@ -35,7 +35,7 @@ pub(crate) fn sync_staged<H: Files>(
     Ok(())
 }
 
-// Puts each of the files in its place.
+// Renames each of the files to its place.
 fn place_staged<H: Files>(calls: &mut SystemCalls<H>, staged: &[Staged]) -> Result<(), DeviceFault>
     ensures { Does (map (λ file. placing (move_of file)) staged.now)
         calls.old calls.new result }
@@ -46,7 +46,7 @@ fn place_staged<H: Files>(calls: &mut SystemCalls<H>, staged: &[Staged]) -> Resu
     Ok(())
 }
 
-/// Has the names in each of the folders outlast a crash, one after another.
+/// Syncs the names in the folders, one folder after another.
 pub(crate) fn sync_folders<H: Files>(
     calls: &mut SystemCalls<H>,
     folders: &[String],
@@ -60,7 +60,7 @@ pub(crate) fn sync_folders<H: Files>(
     Ok(())
 }
 
-/// Has the files outlast a crash, puts them in their places, and has the names in the folders outlast a crash.
+/// Syncs the files, renames them to their places, and syncs the names in the folders.
 pub(crate) fn put_staged<H: Files, D: SyncsTogether>(
     calls: &mut SystemCalls<H>,
     disk: &D,
@@ -76,8 +76,8 @@ pub(crate) fn put_staged<H: Files, D: SyncsTogether>(
     calls.sync_folders(disk, alloc, folders)
 }
 
-/// Writes a new file that everybody may read, and makes the folders above it where they aren't there. Their names may be
-/// lost in a crash.
+/// Writes a file that everybody may read, and makes the folders above it if they aren't there. A crash may lose their
+/// names.
 pub(crate) fn write_in_folder<H: Files>(
     calls: &mut SystemCalls<H>,
     path: &str,

@@ -1,5 +1,6 @@
-//! The calls of the system. That the call before the note in each method does what the method is named for is trusted;
-//! and of a disk that syncs many (`SyncsTogether`), that an outcome which is `Ok` is that of a sync of its path.
+//! The system calls. It is trusted that the call before the note in each method does what the method's name says. It
+//! is also trusted of a disk that syncs many files (`SyncsTogether`) that an `Ok` is the outcome of a sync of its
+//! path.
 
 ghost use Rattle.std.specs.Prelude.{◌≡◌, ◌≤◌, [], length, is_ok, IfOk};
 
@@ -17,12 +18,12 @@ use std::marker::Model;
 use std::os::unix::fs::PermissionsExt;
 use tl_device::DeviceFault;
 
-// Everybody may read what a log shows, and its owner alone may write it.
+// Everybody may read what a log shows; only its owner may write it.
 const SHOWN_FILE: u32 = 0o644;
 
 const SHOWN_FOLDER: u32 = 0o755;
 
-/// The system, by this handle, and the calls that were made. Contracts see the calls.
+/// The system, through this handle, and the calls that were made. Contracts see the calls.
 #[derive(Drop)]
 pub(crate) struct SystemCalls<H> {
     files: H,
@@ -39,7 +40,7 @@ impl<H> Model for SystemCalls<H> {
 }
 
 impl<H> SystemCalls<H> {
-    /// No call yet.
+    /// Returns the system before any call.
     pub(crate) fn new(files: H) -> SystemCalls<H>
         ensures { result ≡ [] }
     {
@@ -50,21 +51,22 @@ impl<H> SystemCalls<H> {
     }
 }
 
-/// A file or a folder that is open. Only this file of the crate can write to it.
+/// A file or folder that is open. Only this module can write to it.
 #[derive(Drop)]
 pub(crate) struct OpenedFile<F> {
     file: F,
 }
 
 impl<F: OpenFile> OpenedFile<F> {
-    /// What the system tells of it.
+    /// Returns its metadata.
     pub(crate) fn metadata(&self) -> io::Result<Metadata> {
         self.file.metadata()
     }
 }
 
 impl OpenedFile<File> {
-    /// Locks it while it is open, also where the process ends in any way. `Busy`: another has it.
+    /// Locks it as long as it is open, also if the process ends in any way. `Busy` means that another process has the
+    /// lock.
     pub(crate) fn lock(&self) -> Result<(), DeviceFault> {
         match self.file.try_lock() {
             Ok(()) => Ok(()),
@@ -74,15 +76,15 @@ impl OpenedFile<File> {
     }
 }
 
-// Writes a new file, in place of a plain one that may be there.
+// Writes a file, replacing the bytes of a plain file that is there.
 fn write_file<H: Files>(files: &H, path: &str, bytes: &[u8]) -> Result<(), DeviceFault> {
     let mut file = File::create(files, path)?;
     file.write_all(bytes)?;
     Ok(())
 }
 
-// The same, of a file that everybody may read, whatever the process allows new files. A mode that the system doesn't
-// set stays as it is, and nothing fails.
+// Writes a file that everybody may read, whatever the process's umask. If the system can't set the mode, it stays as
+// it is, and nothing fails.
 fn write_shown_file<H: Files>(files: &H, path: &str, bytes: &[u8]) -> Result<(), DeviceFault> {
     let mut file = File::create(files, path)?;
     let _ = file.set_permissions(Permissions::from_mode(SHOWN_FILE));
@@ -90,21 +92,21 @@ fn write_shown_file<H: Files>(files: &H, path: &str, bytes: &[u8]) -> Result<(),
     Ok(())
 }
 
-// Makes a folder in which everybody may read. A mode that the system doesn't set stays as it is, and nothing fails.
+// Makes a folder that everybody may read. If the system can't set the mode, it stays as it is, and nothing fails.
 fn make_shown_folder<H: Files>(files: &H, path: &str) -> Result<(), DeviceFault> {
     create_dir(files, path)?;
     let _ = files.set_permissions(path, Permissions::from_mode(SHOWN_FOLDER));
     Ok(())
 }
 
-// Writes a file where nothing is, also no link.
+// Writes a file where nothing is, not even a symbolic link.
 fn write_new_file<H: Files>(files: &H, path: &str, bytes: &[u8]) -> Result<(), DeviceFault> {
     let mut file = File::create_new(files, path)?;
     file.write_all(bytes)?;
     Ok(())
 }
 
-// Has what the file at this path has outlast a crash.
+// Syncs the file at this path.
 fn sync_file<H: Files>(files: &H, path: &str) -> Result<(), DeviceFault> {
     match open_plain(files, path, files.symlink_metadata(path)) {
         Ok(Some(file)) => file.sync_all()?,
@@ -114,14 +116,15 @@ fn sync_file<H: Files>(files: &H, path: &str) -> Result<(), DeviceFault> {
     Ok(())
 }
 
-// Has the names in the folder at this path outlast a crash.
+// Syncs the names in the folder at this path.
 fn sync_names<H: Files>(files: &H, path: &str) -> Result<(), DeviceFault> {
     let folder = open_folder(files, path)?;
     folder.sync_all()?;
     Ok(())
 }
 
-// Puts a folder at another path, and has it outlast a crash that it is gone from the folder above the first.
+// Moves a folder to another path, and syncs the folder above the first path, so that it stays away from there after a
+// crash.
 fn move_folder<H: Files>(files: &H, from: &str, to: &str) -> Result<(), DeviceFault> {
     rename(files, from, to)?;
     match folder_of(from) {
@@ -130,7 +133,7 @@ fn move_folder<H: Files>(files: &H, from: &str, to: &str) -> Result<(), DeviceFa
     }
 }
 
-// Has the names in the folder at this path outlast a crash, from which something was renamed: it is there.
+// Syncs the names in the folder at this path, from which something was renamed, so the folder is there.
 fn sync_renamed<H: Files>(files: &H, path: &str) -> Result<(), DeviceFault> {
     match sync_names(files, path) {
         Err(DeviceFault::NotThere) => Err(DeviceFault::System),
@@ -138,7 +141,7 @@ fn sync_renamed<H: Files>(files: &H, path: &str) -> Result<(), DeviceFault> {
     }
 }
 
-// An answer of the system, with its error as a fault.
+// Converts the error of the system into a fault.
 fn or_fault<T>(answer: io::Result<T>) -> Result<T, DeviceFault>
     ensures { is_ok result ≡ is_ok answer }
 {
@@ -156,7 +159,7 @@ fn append_to<F: Write>(file: &mut F, bytes: &[u8]) -> Result<usize, DeviceFault>
     Ok(count)
 }
 
-/// Has what is at the path of this number outlast a crash.
+/// Syncs what is at `paths[number]`.
 pub fn sync_at<H: Files>(
     files: &H,
     kind: SyncKind,

@@ -1,4 +1,4 @@
-//! Whether a log is in a folder, before anything is made there.
+//! Finding out whether a folder has a log, before anything is made there.
 
 ghost use Rattle.std.specs.Prelude.{◌≡◌, ◌≢◌, ◌↔◌, true, false, IfErr, IsErrAnd, IsOk};
 ghost use Rattle.std.specs.IoError.{error_kind};
@@ -10,7 +10,7 @@ use std::io;
 use std::io::ErrorKind;
 use tl_device::DeviceFault;
 
-// Whether something is at a path, by what the system told of it; `false` if nothing is there.
+// Reports whether something is at a path, given the path's metadata.
 fn is_taken(told: io::Result<Metadata>) -> Result<bool, DeviceFault>
     ensures taken { (result ≡ Ok true) ↔ IsOk told }
     ensures free { (result ≡ Ok false) ↔ IsErrAnd told (λ e. error_kind e ≡ ErrorKind.NotFound) }
@@ -24,9 +24,9 @@ fn is_taken(told: io::Result<Metadata>) -> Result<bool, DeviceFault>
     }
 }
 
-/// Whether a log is in the folder at this path, or was: its checkpoint is there, the proposal of one, or the mark of
-/// what was published; a link to nowhere is there, too. A folder that isn't there has none. Nothing is made, locked or
-/// opened. It fails if the system doesn't say whether one of them is there.
+/// Reports whether the folder at this path has a log, or had one: its checkpoint is there, or a proposal, or the
+/// mark. A symbolic link counts, even a broken one. A folder that isn't there has no log. Nothing is made, locked or
+/// opened. It fails if the system doesn't say whether one of these is there.
 pub fn has_log<H: Files>(files: &H, alloc: Global, dir: &str) -> Result<bool, DeviceFault> {
     for name in ["checkpoint", "proposal", "published"] {
         let path = format!(in alloc; "{dir}/{name}")?;

@@ -17,8 +17,8 @@ use std::fs::{File, Files, OpenOptions};
 use std::marker::Model;
 use tl_device::DeviceFault;
 
-/// A file that one process at a time reads and replaces: at each moment, also where a crash comes, it has its old bytes
-/// or its new ones. Contracts see the bytes that replaced the others last, and the calls of the system so far.
+/// A file that one process at a time reads and replaces. At each moment, even if a crash comes, it has its old bytes
+/// or its new ones. Contracts see the bytes that last replaced others, and the system calls so far.
 #[derive(Drop)]
 pub struct AtomicFile<'s, H: Files> {
     calls: SystemCalls<&'s H>,
@@ -42,8 +42,8 @@ impl<'s, H: Files> Model for AtomicFile<'s, H> {
     ghost invariant = { λ f. string_bytes f.beside ≡ new_path f.path.now };
 }
 
-/// Writes bytes beside the place of a file and then puts them there, once they outlast a crash, and then has the name
-/// outlast one. `NotPlain`: in one of the two places is something else than a plain file, and nothing was written.
+/// Writes bytes beside the place of a file, syncs them, renames the file to its place and syncs the name. `NotPlain`
+/// means that at one of the two paths is something else than a plain file; nothing was written then.
 pub(crate) fn replace_by<H: Files>(
     calls: &mut SystemCalls<H>,
     beside: &str,
@@ -58,9 +58,9 @@ pub(crate) fn replace_by<H: Files>(
 }
 
 impl<'s, H: Files<File = File>> AtomicFile<'s, H> {
-    /// The file at this path, whether it is there or not. A file beside it, whose name has `.lock` behind, is made and
-    /// locked as long as this lasts. `Busy`: another process has that lock. `NotPlain`: at the lock's path is something
-    /// else than a plain file, as a link.
+    /// Opens the file at this path, whether it is there or not. A file beside it, whose name has `.lock` added, is
+    /// made and locked as long as the value lives. `Busy` means that another process has that lock; `NotPlain` that
+    /// something else than a plain file, such as a symbolic link, is at the lock's path.
     pub fn open(
         files: &'s H,
         alloc: Global,
@@ -88,16 +88,16 @@ impl<'s, H: Files<File = File>> AtomicFile<'s, H> {
         })
     }
 
-    /// Its bytes, `None` where there is no file. `TooLarge`: it has more than `most`. `NotPlain`: at its path is
-    /// something else than a plain file, as a link.
+    /// Returns the file's bytes, or `None` if there is no file. `TooLarge` means that it has more than `most`;
+    /// `NotPlain` that something else than a plain file, such as a symbolic link, is at its path.
     pub fn read(&self, alloc: Global, most: u64) -> Result<Option<Vec<u8>>, DeviceFault> {
         let told = self.calls.symlink_metadata(self.path);
         self.calls.read(alloc, self.path, told, most)
     }
 
-    /// Replaces its bytes. It waits for the disk: the new bytes outlast a crash once it answers. `Moved`: the file that
-    /// is locked isn't at its path any more. `NotPlain`: at its path, or at that of the bytes that are to come there,
-    /// is something else than a plain file, as a link. Nothing was written then.
+    /// Replaces the file's bytes. Waits for the disk: on return the new bytes outlast a crash. `Moved` means that the
+    /// locked file isn't at its path any more; `NotPlain` that something else than a plain file, such as a symbolic
+    /// link, is at its path or where the new bytes would first be written. Nothing was written then.
     pub fn replace(&mut self, bytes: &[u8]) -> Result<(), DeviceFault>
         ensures path { self.new.path ≡ self.old.path }
         ensures replaced { OnOk result (self.new.bytes ≡ bytes.now) }

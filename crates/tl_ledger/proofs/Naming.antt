@@ -21,7 +21,7 @@ not_first first keys name other (suc i, key, less, at, same) = (i, key, omega (a
 still_named : (first : Key) (keys : List Key) (name : Bytes) → IsNamed keys name → IsNamed (first ∷ keys) name
 still_named first keys name (i, key, less, at, same) = (suc i, key, omega (arith, less), at, same)
 
--- so the rest tell
+-- if the first key has another name, the rest decides
 pub named_rest : {X : Type 0} (key : X → Key) (xs : List X) (first : X) (name : Bytes) (told : Bool) → 1 ≤ length xs → first ≡ get_or xs 0 first → ((key first).name ≡ name → IsTrue false)
     → (IsTrue told ↔ IsNamed (map key (take (length xs - 1) (drop 1 xs))) name) → IsTrue told ↔ IsNamed (map key xs) name
 named_rest key [] first name told some is other rest = absurd (omega (arith, some))

@@ -21,7 +21,7 @@ all_mapped P g a zero f = All-nil P
 all_mapped P g a (suc n) f =
     All-cons P (g a) (map g (range_with_len (a + 1) n)) (f a (omega arith) (omega arith)) (all_mapped P g (a + 1) n (λ p low high. f p (omega (arith, low)) (omega (arith, high))))
 
--- what holds of the number of each place of the partial tiles
+-- what holds of the stored index of each hash of the partial tiles
 pub all_numbers : (P : ℕ → Type 0) (size k : ℕ) → ((level place : ℕ) → level < k → base size level ≤ place → place < level_count size level → P (stored_index (8 * level) place)) → All P (numbers_below size k)
 unfolding numbers_below
 all_numbers P size zero f = All-nil P
@@ -70,7 +70,7 @@ div_le a b u some less = le-div (a / u) b u some (omega (arith, div-mul-le_self 
 power_256 : (k : ℕ) → 0 < 256 ^ k
 power_256 k = omega (arith, pow_pos (8 * k), tile_height k)
 
--- so many levels above a place of a partial tile there is no hash
+-- this many levels above the position of a partial tile there is no hash
 above_none : (size level place up : ℕ) → base size level ≤ place → level_count size (level + up + 1) ≤ place / 256 ^ (up + 1)
 above_none size level place up low =
     let u : ℕ = 256 ^ up in

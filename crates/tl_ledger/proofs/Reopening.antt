@@ -288,7 +288,7 @@ opens_some keys found head ledger is signed restores = record {
   stands = λ log is_log. restores.stands log (subst (λ (h : Option Head). IsLogOf sha256 h log) is is_log);
 }
 
--- ---- where the shelf is whole
+-- ---- if the shelf has all that the log needs
 
 pub whole_tiles : (items : List Item) (held : Held) (size : ℕ) (fetched : List (Tile × Bytes)) (log : List Bytes) → size < 2 ^ 32 → AreThere held items → length log ≡ size → HasAll sha256 log held
     → AreAnswers (λ t text. Contains items (resource.Tile t, text)) size fetched → AreHonest sha256 (tiles_of fetched) log
@@ -369,7 +369,7 @@ part_failed honest held may_fail items head found (opening.Damaged r) read damag
 part_failed honest held may_fail items head found (opening.Shelf fault) read none = absurd none
 part_failed honest held may_fail items head found opening.OutOfMemory read memory = tt
 
--- a log was not opened as far as its checkpoint goes
+-- a log was not opened as its checkpoint states it
 pub head_failed : (honest : Bool) (held : Held) (may_fail : Resource → ShelfFault → Type 0) (keys : List Key) (stated : Option Head) (head : Head) (found : Found) (fault : OpenFault) → found.head ≡ Some head → stated ≡ Some head
     → IsOfSigned keys stated → (honest ≡ true → IsOfHeld held keys stated) → HeadFails honest held may_fail head found fault → OpenFails honest held may_fail keys found fault
 head_failed honest held may_fail keys stated head found opening.Checkpoint is own_is signed there none = absurd none
@@ -382,7 +382,7 @@ head_failed honest held may_fail keys stated head found (opening.Damaged r) is o
 head_failed honest held may_fail keys stated head found (opening.Shelf fault) is own_is signed there fails = fails
 head_failed honest held may_fail keys stated head found opening.OutOfMemory is own_is signed there memory = tt
 
--- nor as far as a note goes
+-- a log was not opened as a note states it
 pub note_failed : (honest : Bool) (held : Held) (may_fail : Resource → ShelfFault → Type 0) (note : Bytes) (keys : List Key) (head : Head) (found : Found) (fault : OpenFault) → found.head ≡ Some head
     → IsOfNote note keys head → HeadFails honest held may_fail head found fault → OpenNoteFails honest held may_fail note keys found fault
 note_failed honest held may_fail note keys head found opening.Checkpoint is signed none = absurd none

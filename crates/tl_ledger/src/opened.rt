@@ -29,7 +29,7 @@ use tl_hash::Head;
 use tl_note::Verifier;
 use tl_tile::FetchedTiles;
 
-// The ledger of a log of this size and root, from what was read.
+// Restores the ledger of a log of this size and root from what was read.
 fn restore<A: Allocator + Copy>(
     alloc: A,
     source: &ShelfSource<A>,
@@ -64,7 +64,7 @@ fn restore<A: Allocator + Copy>(
     Ok(Ledger::of(edge, bundle))
 }
 
-// The ledger of the log of this size and root on a shelf. `found` then holds what was read, also after a fault.
+// Opens the log of this size and root. `found` then holds what was read, even on error.
 fn open_head<S: Shelf, A: Allocator + Copy>(
     alloc: A,
     shelf: &S,
@@ -92,10 +92,10 @@ fn open_head<S: Shelf, A: Allocator + Copy>(
 }
 
 impl<A: Allocator + Copy> Ledger<A> {
-    /// The ledger of the log on this shelf, as far as its checkpoint goes, which the verifiers have to open (C2SP
-    /// tlog-checkpoint); of no entries where there is no checkpoint. It reads the checkpoint, the partial tiles and the
-    /// partial bundle, each once, and checks them against the root. `found` then holds what was read, also after a
-    /// fault. `OtherLog`: the checkpoint's origin is the name of no verifier.
+    /// Opens the log on this shelf as its checkpoint states it, which the verifiers must open (C2SP tlog-checkpoint).
+    /// Without a checkpoint the log is empty. Reads the checkpoint, the partial tiles and the partial bundle, each
+    /// once, and checks them against the root. `found` then holds what was read, even on error. `OtherLog` means that
+    /// the checkpoint's origin is the name of none of the verifiers.
     pub fn open<S: Shelf>(
         alloc: A,
         shelf: &S,
@@ -123,9 +123,9 @@ impl<A: Allocator + Copy> Ledger<A> {
         }
     }
 
-    /// As `open`, as far as this note goes, which the verifiers have to open, and not as the checkpoint that is there:
-    /// that of a checkpoint which isn't at its place yet. The checkpoint there isn't read. `OtherLog`: the note's
-    /// origin is the name of no verifier.
+    /// Opens the log on this shelf as this note states it, which the verifiers must open. The checkpoint on the shelf
+    /// isn't read, so the note may be one that isn't published yet. All else is as in `open`; `OtherLog` means that
+    /// the note's origin is the name of none of the verifiers.
     pub fn open_note<S: Shelf>(
         alloc: A,
         shelf: &S,

@@ -1,4 +1,4 @@
-//! Removing the partial tiles and bundles that a log needs no more.
+//! Removing partial tiles and bundles that a log no longer needs.
 
 ghost use Rattle.std.specs.Prelude.{◌≡◌, ℕ, ◌+◌, ◌*◌, ◌^◌, ◌<◌, ◌≤◌, List, OnErr, OnOk};
 ghost use Rattle.sha2.specs.Sha256.{sha256};
@@ -14,7 +14,7 @@ ghost use Rattle.tl_ledger.specs.Inner.Spending.{LacksAt, LacksLevel, Sheds};
 use tl_archive::{Shelf, ShelfFault};
 use tl_tile::{Resource, Tile};
 
-// Removes the partial ones of the tile at an index of a level, and, at the lowest level, of the bundle there.
+// Removes the partial tiles at an index of a level and, for the lowest level, the partial bundles there.
 fn remove_at<S: Shelf>(shelf: &mut S, level: u32, index: u64) -> Result<(), ShelfFault>
     requires lawful { (level < 3) × (index < 2 ^ 32) }
     ensures sheds { (size : ℕ) → (index + 2) * 256 ^ (level + 1) ≤ size
@@ -38,7 +38,8 @@ fn remove_at<S: Shelf>(shelf: &mut S, level: u32, index: u64) -> Result<(), Shel
     Ok(())
 }
 
-// Removes those of a level that are spent since it had so many full tiles, of those that it has.
+// Removes the partial tiles and bundles of a level that became unnecessary while its full tiles grew from `had` to
+// `has`.
 fn remove_level<S: Shelf>(shelf: &mut S, level: u32, had: u64, has: u64) -> Result<(), ShelfFault>
     requires small { (level < 3) × (had < 2 ^ 56) × (has < 2 ^ 32) }
     ensures sheds { (size : ℕ) → has * 256 ^ (level + 1) ≤ size
@@ -57,9 +58,10 @@ fn remove_level<S: Shelf>(shelf: &mut S, level: u32, had: u64, has: u64) -> Resu
     Ok(())
 }
 
-/// Removes the partial tiles and bundles that are spent since the log had `from` entries (C2SP tlog-tiles, "Partial
-/// Tiles"), where the checkpoint of `size` entries is there: those of which the full one is there, and the full one
-/// behind it, too, so that who reads by an earlier checkpoint has a while to do so. More may have been put since.
+/// Removes the partial tiles and bundles that became unnecessary while the log grew from `from` to `size` entries
+/// (C2SP tlog-tiles, "Partial Tiles"). A partial one is unnecessary once the full one is there, and so is the full
+/// one after it; until then a client with an earlier checkpoint can still read it. If the checkpoint of `size`
+/// entries is there, the shelf stays complete, even if the log has grown since.
 pub fn remove_spent<S: Shelf>(shelf: &mut S, from: u64, size: u64) -> Result<(), ShelfFault>
     requires small { size < 2 ^ 32 }
     ensures kept { (history : List Prefix) (log : List Bytes) (ledger : Ledger)

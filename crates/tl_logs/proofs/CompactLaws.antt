@@ -93,7 +93,7 @@ pub reads_state : {A : Type 0} (H : Digest) (logs : Option (List Log)) (counts :
 reads_state H logs counts p (Ok heads) same knows refused = subst (λ (f : Counts). KnowsHeads H f p (heads_shown (vec_items heads))) same knows
 reads_state H logs counts p (Err fault) same knows refused = refuses_by H logs counts p fault same refused
 
--- memory was refused for the lines of some heads
+-- memory ran out for the lines of some heads
 pub lines_refused : (H : Digest) (counts : Counts) (p : Passage) (heads : List state.OriginHead) → counts ≡ of_logs None → KnowsHeads H counts p heads → 0 < length heads
     → RefusesState H None p OutOfMemory
 lines_refused H counts p heads all knows some =

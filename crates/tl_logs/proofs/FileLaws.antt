@@ -78,7 +78,7 @@ fewer bytes left words rest count some few (one, inl cut) = omega (arith, few, a
 fewer bytes [] words rest count some few (one, inr (same, none)) = absurd (some refl)
 fewer bytes (b ∷ left) words rest count some few (one, inr (same, none)) = omega (arith, few, ap length none)
 
--- a line that is passed over
+-- a line that is skipped
 passed : (bytes : List ℕ) (known new : List Log) (count : ℕ) (left words rest : List ℕ) → HasRead bytes known count left → left ≢ []
     → CutsLine left words rest → IsPassedOver words → new ≡ known → HasRead bytes new (count + 1) rest
 passed bytes known new count left words rest read some cut over now =

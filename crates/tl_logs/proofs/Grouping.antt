@@ -1,4 +1,4 @@
--- Laws of the logs that keys are of, as one key more comes behind them.
+-- Laws of the logs that keys belong to, when one key more follows.
 use Rattle.std.proofs.Common.{◌≡◌, ◌≢◌, ℕ, zero, suc, Bool, true, false, List, [], ◌∷◌, ◌++◌, map, refl, sym, ap, subst, ◌∙◌, cond, inl, inr, Some, All, get_or}
 use Rattle.std.specs.Prelude.{◌||◌, not, bytes_eq, filter, slice_get, slice_set}
 use Rattle.std.specs.List.{list_any}
@@ -136,13 +136,13 @@ grouped_more given l is = elim (cases_Bool (has l.origin given)) [
 
 -- ---- the logs
 
--- what is changed at one value only, where that isn't among them
+-- a function changed at one value only, for values that aren't this one
 same_others : {A B : Type 0} (f g : A → B) (x : A) (xs : List A) → ¬ (IsAmong x xs) → ((y : A) → y ≢ x → g y ≡ f y) → map g xs ≡ map f xs
 same_others f g x [] apart same = refl
 same_others f g x (y ∷ xs) apart same =
     ap (λ (z : _). z ∷ map g xs) (same y (λ e. apart (inl e))) ∙ ap (λ (zs : List _). f y ∷ zs) (same_others f g x xs (λ is. apart (inr is)) same)
 
--- and where it is among them once
+-- for values of which one is this one
 changed_once : {A B : Type 0} (f g : A → B) (x : A) (v : B) (xs : List A) (place : ℕ) → ¬ (HasTwice xs) → slice_get xs place ≡ Some x → g x ≡ v
     → ((y : A) → y ≢ x → g y ≡ f y) → map g xs ≡ slice_set (map f xs) place v
 changed_once f g x v [] place once there now same = absurd cc
@@ -179,7 +179,7 @@ origins_of_logs : (given : List LogKey) (os : List (List ℕ)) → log_origins (
 origins_of_logs given [] = refl
 origins_of_logs given (o ∷ os) = ap (λ (t : List (List ℕ)). o ∷ t) (origins_of_logs given os)
 
--- a key that is put makes the logs of one key more
+-- a key that is added makes the logs those of one key more
 pub puts_more : (given : List LogKey) (l : LogKey) (new : List Log) → Grouped given → PutsKey l (logs given) new
     → new ≡ logs (given ++ l ∷ [])
 puts_more given l new is (inl (place, before, there, apart, now)) =
@@ -205,7 +205,7 @@ puts_more given l new is (inr (none, now)) =
 
 -- ---- keys that come twice
 
--- the keys that stand at a place are those of the log
+-- the keys at a position are those of the log
 at_place : (given : List LogKey) (place : ℕ) (origin : List ℕ) (before : List PublicKey) → slice_get (logs given) place ≡ Some (log origin before) → keys_of origin given ≡ before
 at_place given place origin before there =
     let at = stands_at (log_of given) (origins given) place (log origin before) there in
@@ -230,7 +230,7 @@ once_one : (origin : List ℕ) (key : PublicKey) → HasEachOnce (log origin (ke
 once_one origin key (inl none) = none
 once_one origin key (inr none) = none
 
--- a key that is put comes to no log twice
+-- a key that is added is in no log twice
 pub once_puts : (k : LogKey) (old new : List Log) → All HasEachOnce old → PutsKey k old new → All HasEachOnce new
 once_puts k old new each (inl (place, before, there, apart, now)) =
     subst (All HasEachOnce) (sym now)

@@ -1,4 +1,4 @@
--- The index of heads, as one moves or comes.
+-- The index of heads, when one moves or is added.
 use Rattle.std.proofs.Common.{◌≡◌, ℕ, ◌<◌, Bool, true, false, List, [], ◌∷◌, ◌++◌, length, map, Some, refl, sym, ap, subst, ◌∙◌, inl, arith, slice_get, slice_index_or}
 use Rattle.std.specs.Prelude.{slice_set}
 use Rattle.std.proofs.lemmas.List.{map-append, map-set, length-map}
@@ -23,7 +23,7 @@ module _ {A : Type 0} (view : A → OriginHead) (xs : List A) (index : Index) (o
       let within = slice_get_within (head_origins (map view xs)) place origin (is.found origin place (sym found)) in
       omega (arith, within, length-map xs view, length-map (map view xs) (λ (o : OriginHead). o.origin))
 
-  -- the head at the place that the index gives is one of this origin
+  -- the head at the position that the index gives is of this origin
   pub head_named : (place : ℕ) (x : A) → Some place ≡ index origin → x ≡ slice_index_or xs place x → (view x).origin ≡ origin
   head_named place x found read =
       named_at (λ (y : A). (view y).origin) xs place origin x

@@ -1,4 +1,4 @@
--- Laws of the heads that lines lead to, as one line more comes behind them.
+-- Laws of the heads that lines lead to, when one line more follows.
 use Rattle.std.proofs.Common.{◌≡◌, ◌≢◌, ℕ, Bool, true, false, List, [], ◌∷◌, ◌++◌, map, refl, sym, ap, subst, ◌∙◌, cond, inl, inr, Some, All, slice_get, arith, append_assoc, append-nil}
 use Rattle.std.specs.Prelude.{◌||◌, bytes_eq, filter, slice_set}
 use Rattle.std.specs.List.{list_any}

@@ -1,4 +1,4 @@
--- An index of origins stays one as a list grows.
+-- An index of origins stays one when the list grows.
 use Rattle.std.proofs.Common.{◌≡◌, ◌≢◌, ℕ, zero, suc, ◌<◌, Bool, true, false, cond, List, [], ◌∷◌, ◌++◌, length, map, Some, None, ◌⊎◌, inl, inr, refl, sym, ap, subst, ◌∙◌, arith, slice_get}
 use Rattle.std.specs.Prelude.{bytes_eq, slice_set}
 use Rattle.std.specs.Option.{option_map}
@@ -11,7 +11,7 @@ use Rattle.tl_logs.specs.Inner.ByOrigin.{Index, Indexes, PutsOrigin, log_origins
 use Rattle.tl_logs.specs.Inner.Placing.{PutsKey}
 use Rattle.tl_logs.proofs.ListLaws.{shown_twice}
 
--- of no origins no place is known
+-- for no origins no position is known
 pub indexes_none : (index : Index) → ((o : List ℕ) → index o ≡ None) → Indexes index []
 indexes_none index none = record {
   found = λ o i there. absurd (let no : None ≡ Some i = sym (none o) ∙ there in cc);
@@ -63,12 +63,12 @@ indexes_more index new origins origin place last is puts = record { found = foun
               | inr same ↦ let no : true ≡ false = sym ((bytes_eq-Decides origin o).1 same) ∙ e in absurd cc
             ]
 
--- ---- a key more
+-- ---- one key more
 
 some_one : {A : Type 0} (x y : A) → Some x ≡ Some y → x ≡ y
 some_one x y e = cc
 
--- a key that is put behind others changes no origin
+-- a key that is appended to others changes no origin
 origins_kept : (old : List Log) (place : ℕ) (origin : List ℕ) (before after : List PublicKey) → slice_get old place ≡ Some (log origin before) → log_origins (slice_set old place (log origin after)) ≡ log_origins old
 origins_kept [] place origin before after there = absurd cc
 origins_kept (c ∷ old) zero origin before after there = let same : c.origin ≡ origin = ap (λ (c : Log). c.origin) (some_one c (log origin before) there) in ap (λ (p : List ℕ). p ∷ log_origins old) (sym same)
@@ -92,11 +92,11 @@ module _ {A : Type 0} (view : A → Log) (xs : List A) (index : Index) (origin :
   pub known_within : (place : ℕ) → Some place ≡ index origin → place < length xs
   known_within place found = let within = slice_get_within (map (λ (x : A). (view x).origin) xs) place origin (known_there place found) in omega (arith, within, length-map xs (λ (x : A). (view x).origin))
 
-  -- where it gives none, none is
+  -- if the index gives none, there is none
   pub unknown_there : None ≡ index origin → (place : ℕ) → slice_get (log_origins (map view xs)) place ≢ Some origin
   unknown_there none place there = is.absent origin place (sym none) there
 
--- the index goes on, as a key is put behind others
+-- the index still fits when a key is appended to others
 pub indexed_known : (index : Index) (k : LogKey) (old new : List Log) (place : ℕ) → Indexes index (log_origins old) → Some place ≡ index k.origin → PutsKey k old new → Indexes index (log_origins new)
 indexed_known index k old new place is found (inl (at, before, there, apart, now)) =
     subst (Indexes index) (sym (ap log_origins now ∙ origins_kept old at k.origin before (before ++ k.key ∷ []) there)) is

@@ -19,13 +19,13 @@ alone_refused A text Malformed none = λ k is. none k.key is.0
 alone_refused A text Twice none = none
 alone_refused A text OutOfMemory (k, is) = (record { origin = k.name; key = k }, (is, refl))
 
--- what stands round the space behind a log's name
+-- what is before and after the space that follows a log's name
 pub name_parts : (text : List ℕ) (r : Option (Bor (List ℕ) × Bor (List ℕ))) (k : LogKey) (is : IsBehind text k) → IsSplitOnceResult 32 text r
     → MatchOption r ⊥ (λ x. (x.0.now ≡ k.origin) × (x.1.now ≡ is.0))
 name_parts text r k (key, lawful, is, e) split =
     split_after 32 text k.origin key r split (omega arith) e (λ i lt. All-get_or IsNoSpace k.origin i 0 lt (name_no_space k.origin lawful))
 
--- a key behind a name isn't read
+-- a key after a name isn't read
 pub behind_refused : (A : Type 0) (text : List ℕ) (name key : Bor (List ℕ)) (fault : LineFault) → IsSplitOnceResult 32 text (Some (name, key)) → IsKeyName name.now
     → ReadsText key.now (Err fault) → ReadsBehind {A = A} text (Err fault)
 behind_refused A text name key Malformed split named none = λ k is.
@@ -35,7 +35,7 @@ behind_refused A text name key Twice split named none = none
 behind_refused A text name key OutOfMemory split named (k, is) =
     (record { origin = name.now; key = k }, (key.now, named, is, (split_parts 32 text (Some (name, key)) split (omega arith)).0))
 
--- a text names no key, neither alone nor behind a name
+-- a text names no key, neither alone nor after a name
 pub named_refused : (A : Type 0) (words : List ℕ) (fault : LineFault) → ((k : LogKey) → ¬ (IsAlone words k)) → ReadsBehind {A = A} words (Err fault) → ReadsNamed {A = A} words (Err fault)
 named_refused A words Malformed alone none = λ k named. elim named [ inl behind ↦ none k behind | inr one ↦ alone k one ]
 named_refused A words Twice alone none = none

@@ -1,4 +1,4 @@
--- Laws of lists, of what is among them and of what stands at a place.
+-- Laws of lists: what is among them, and what is at a position.
 use Rattle.std.proofs.Common.{◌≡◌, ◌≢◌, ℕ, zero, suc, ◌+◌, ◌<◌, List, [], ◌∷◌, ◌++◌, Some, ◌⊎◌, inl, inr, refl, sym, ap, subst, ◌∙◌, map, take, length, slice_get, slice_index_or}
 use Rattle.std.specs.Option.{option_map}
 use Rattle.std.proofs.lemmas.List.{map_more}
@@ -32,7 +32,7 @@ among_or x y [] (inr none) = absurd none
 among_or x y (z ∷ xs) (inl same) = inr (inl same)
 among_or x y (z ∷ xs) (inr later) = elim (among_or x y xs later) [ inl same ↦ inl same | inr is ↦ inr (inr is) ]
 
--- one more that is new stands there once
+-- one more that is new is there once
 pub once_more : {A : Type 0} (xs : List A) (x : A) → ¬ (HasTwice xs) → ¬ (IsAmong x xs) → ¬ (HasTwice (xs ++ x ∷ []))
 once_more [] x once new (inl none) = none
 once_more [] x once new (inr none) = none
@@ -44,7 +44,7 @@ once_more (y ∷ xs) x once new (inr twice) = once_more xs x (λ t. once (inr t)
 
 -- ---- what stands at a place
 
--- what is read at a place shows there
+-- what is read at a position shows there
 pub shows_at : {A B : Type 0} (f : A → B) (xs : List A) (n i : ℕ) (x : A) (y : B)
     → n ≡ length xs → i < n → x ≡ slice_index_or xs i x → f x ≡ y → slice_get (map f xs) i ≡ Some y
 shows_at f xs n i x y whole within read shown =
@@ -57,7 +57,7 @@ stands_at f [] i y there = absurd (cc)
 stands_at f (x ∷ xs) zero y there = let e : f x ≡ y = cc in (x, refl, e)
 stands_at f (x ∷ xs) (suc i) y there = stands_at f xs i y there
 
--- what is read where something shows, shows so
+-- what is read at a position shows what the position shows
 pub named_at : {A B : Type 0} (f : A → B) (xs : List A) (i : ℕ) (y : B) (x : A) → slice_get (map f xs) i ≡ Some y → x ≡ slice_index_or xs i x → f x ≡ y
 named_at f xs i y x shows read =
     let it = stands_at f xs i y shows in
@@ -70,7 +70,7 @@ named_at f xs i y x shows read =
 pub among_here : {A B : Type 0} (f : A → B) (xs : List A) (i : ℕ) (x : A) (y : B) → i < length xs → x ≡ slice_index_or xs i x → f x ≡ y → IsAmong y (map f xs)
 among_here f xs i x y within read shown = among_at (map f xs) i y (shows_at f xs (length xs) i x y refl within read shown)
 
--- and it isn't among one more, where the next differs
+-- if the next one differs, it isn't among one more
 pub apart_more : {A B : Type 0} (f : A → B) (xs : List A) (i : ℕ) (x : A) (y : B) → i < length xs → x ≡ slice_index_or xs i x → ¬ (f x ≡ y)
     → ¬ (IsAmong y (map f (take i xs))) → ¬ (IsAmong y (map f (take (i + 1) xs)))
 apart_more f xs i x y within read differs apart among =

@@ -18,7 +18,7 @@ use Rattle.tl_logs.proofs.StreamLaws.{end_malformed, read_nothing, so_far}
 abbrev pub over : Option (List ℕ) → Option (List ℕ) → Bool → Bool → Passage
 over a b f g = record { old = a; new = b; had_failed = f; has_failed = g }
 
--- what the reader gave so far, so many bytes, was read
+-- what the reader gave so far, this many bytes, was read
 pub record HasCome (H : Digest) (counts : Counts) (p : Passage) (count : ℕ) (s : SoFar) : Type 0 where
   pub input : List ℕ
   pub consumed : Consumes p.old p.new input

@@ -7,7 +7,7 @@ use Rattle.tl_witness.specs.Open.{SavedChain}
 use Rattle.tl_logs.specs.State.{OriginHead, in_one_step, whole_line, whole_step}
 use Rattle.tl_logs.proofs.ListLaws.{shown_twice}
 
--- the line of the head at a place
+-- the line of the head at a position
 pub line_at : {A : Type 0} (view : A → OriginHead) (heads : List A) (place : ℕ) (x : A) (origin : List ℕ) (step : Step) → place < length heads → x ≡ get_or heads place x
     → All (λ o. IsChainLine (whole_line o)) (map view heads) → origin ≡ (view x).origin → step ≡ whole_step (view x).head
     → IsChainLine (record { origin = origin; step = step })

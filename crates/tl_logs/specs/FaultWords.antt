@@ -1,4 +1,4 @@
--- What a fault of the file of the logs says.
+-- The message of a fault in the file of logs.
 use Rattle.std.specs.Prelude.{◌++◌, codes}
 use Rattle.tl_hash.specs.Bytes.{Bytes}
 use Rattle.tl_text.specs.Text.{number_text}

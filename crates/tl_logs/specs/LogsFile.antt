@@ -1,5 +1,5 @@
--- The file of the logs that a witness knows: a line for each key (a format of this project). The texts of keys are those
--- of C2SP signed-note, "Verifier keys".
+-- The file of logs: one line for each key of a log that a witness knows (a format of this project). Keys are written
+-- as in C2SP signed-note, "Verifier keys".
 use Rattle.std.specs.Prelude.{◌≡◌, ◌≢◌, ℕ, ◌⊎◌, not, List, [], ◌∷◌, ◌++◌, All, map, filter, IsUtf8, bytes_eq}
 use Rattle.std.specs.List.{flat_map}
 use Rattle.tl_hash.specs.Bytes.{Bytes}
@@ -10,69 +10,69 @@ use Rattle.tl_key.specs.NoteKey.{PublicKey, key_id, note_kind}
 
 -- ---- a line
 
--- a key, and the log that it is of
+-- a key, and the log that it belongs to
 pub record LogKey : Type 0 where
   pub origin : Bytes
   pub key : PublicKey
 
--- the words of a line that is passed over: there are none, or they begin with '#'
+-- the line is skipped: it is empty or begins with '#'
 abbrev pub IsPassedOver : Bytes → Type 0
 IsPassedOver words = (words ≡ []) ⊎ ((rest : Bytes) × (words ≡ 35 ∷ rest))
 
--- the words are the log's name, a space and the text of a key; or the text of a key alone, whose name is the log's
+-- the words are a log's name, a space and a key; or a key alone, whose name is the log's
 abbrev pub NamesKey : Bytes → LogKey → Type 0
 NamesKey words k =
     ((text : Bytes) × IsKeyName k.origin × IsVerifierText note_kind text k.key × (words ≡ k.origin ++ 32 ∷ text))
     ⊎ (IsVerifierText note_kind words k.key × (k.origin ≡ k.key.name))
 
--- the words of a line that gives a log a key
+-- the line gives a log this key
 pub record GivesKey (words : Bytes) (k : LogKey) : Type 0 where
   pub utf8 : IsUtf8 words
   pub taken : ¬ (IsPassedOver words)
   pub named : NamesKey words k
 
--- the words are of no line of the file
+-- the line is not skipped and gives no key
 pub record IsNoLine (words : Bytes) : Type 0 where
   pub taken : ¬ (IsPassedOver words)
   pub none : (k : LogKey) → ¬ (GivesKey words k)
 
 -- ---- lines
 
--- a line, without its newline, and the keys that it gives
+-- a line, without its newline, and the keys that it gives: none or one
 pub record FileLine : Type 0 where
   pub words : Bytes
   pub gives : List LogKey
 
--- no byte is a newline
+-- no byte of the words is a newline
 abbrev pub IsInOneLine : Bytes → Type 0
 IsInOneLine words = All (λ byte. byte ≢ 10) words
 
--- a line gives one key, or none where it is passed over
+-- the line gives one key, or none if it is skipped
 pub record IsFileLine (l : FileLine) : Type 0 where
   pub one_line : IsInOneLine l.words
   pub given : (IsPassedOver l.words × (l.gives ≡ [])) ⊎ ((k : LogKey) × GivesKey l.words k × (l.gives ≡ k ∷ []))
 
--- lines, one after the other
+-- the lines, one after another
 abbrev pub file_text : List FileLine → Bytes
 file_text lines = flat_map (λ l. line l.words) lines
 
--- the keys that they give, in order
+-- the keys that the lines give, in order
 abbrev pub keys_in : List FileLine → List LogKey
 keys_in lines = flat_map (λ l. l.gives) lines
 
--- bytes are these lines; the newline of the last may be left out
+-- the bytes are these lines; the newline of the last one may be missing
 pub record IsFileText (bytes : Bytes) (lines : List FileLine) : Type 0 where
   pub each : All IsFileLine lines
   pub spelled : (bytes ≡ file_text lines) ⊎ (line bytes ≡ file_text lines)
 
--- these words stand behind these lines, to a newline or to the end
+-- the bytes are these lines followed by a line with these words, which may be the last and lack its newline
 pub record StandsBehind (bytes : Bytes) (lines : List FileLine) (words : Bytes) : Type 0 where
   pub one_line : IsInOneLine words
   pub joined : ((after : Bytes) × (bytes ≡ file_text lines ++ (line words ++ after))) ⊎ (bytes ≡ file_text lines ++ words)
 
 -- ---- logs
 
--- a log and the keys that it is known by
+-- a log with its keys
 pub record Log : Type 0 where
   pub origin : Bytes
   pub keys : List PublicKey
@@ -80,11 +80,11 @@ pub record Log : Type 0 where
 abbrev pub log : Bytes → List PublicKey → Log
 log origin keys = record { origin = origin; keys = keys }
 
--- the others, without this one
+-- the list without this origin
 abbrev pub without : Bytes → List Bytes → List Bytes
 without origin others = filter (λ other. not (bytes_eq origin other)) others
 
--- the logs in the order of their first keys: that of the first key, and then the other keys' without it
+-- the logs' origins in the order of their first keys
 abbrev pub origins : List LogKey → List Bytes
 origins [] = []
 origins (first ∷ keys) = first.origin ∷ without first.origin (origins keys)
@@ -99,12 +99,12 @@ logs keys = map (λ origin. log origin (keys_of origin keys)) (origins keys)
 
 -- ---- keys that come twice
 
--- x is one of these
+-- x is in the list
 abbrev pub IsAmong : {A : Type 0} → A → List A → Type 0
 IsAmong x [] = ⊥
 IsAmong x (y ∷ ys) = (y ≡ x) ⊎ IsAmong x ys
 
--- one of these stands there twice
+-- some element is in the list twice
 abbrev pub HasTwice : {A : Type 0} → List A → Type 0
 HasTwice [] = ⊥
 HasTwice (x ∷ xs) = IsAmong x xs ⊎ HasTwice xs
@@ -113,10 +113,10 @@ HasTwice (x ∷ xs) = IsAmong x xs ⊎ HasTwice xs
 abbrev pub key_name : PublicKey → Bytes × ℕ
 key_name k = (k.name, key_id k.name k.kind k.key)
 
--- no two keys of a log have one name and identifier
+-- no two keys of a log have the same name and identifier
 abbrev pub HasEachOnce : Log → Type 0
 HasEachOnce known = ¬ (HasTwice (map key_name known.keys))
 
--- a key of that name and identifier is among those of its log
+-- a key with this one's name and identifier is among those of its log
 abbrev pub IsKnown : LogKey → List LogKey → Type 0
 IsKnown k keys = IsAmong (key_name k.key) (map key_name (keys_of k.origin keys))

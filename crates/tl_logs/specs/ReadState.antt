@@ -1,4 +1,4 @@
--- What reading the state of a witness answers, and what compacting it does. H is the digest function.
+-- What reading the state of a witness answers, and what compacting it answers. H is the digest function.
 use Rattle.std.specs.Prelude.{List, None, Option, Result, Ok, Err, String, map, string_bytes, vec_items}
 use Rattle.std.specs.declared.vec.Vec.{Vec}
 use Rattle.tl_hash.specs.Bytes.{Digest}
@@ -10,14 +10,14 @@ use Rattle.tl_logs.specs.StateFaults.{RefusesState}
 use Rattle.tl_logs.specs.declared.head.OriginHead.{OriginHead}
 use Rattle.tl_logs.specs.declared.state_fault.StateFault.{StateFault}
 
--- what heads say, whatever memory they are in
+-- the origin, size and root of a head, whatever its allocator
 abbrev pub head_shown : {A : Type 0} → OriginHead A → state.OriginHead
 head_shown o = origin_head (string_bytes o.origin) (record { size = o.size; root = o.root })
 
 abbrev pub heads_shown : {A : Type 0} → List (OriginHead A) → List state.OriginHead
 heads_shown heads = map head_shown heads
 
--- the heads of the origins of these logs, or of all, or why the state isn't read
+-- the heads of the origins of these logs, or of all origins; or why the state isn't read
 abbrev pub ReadsState : {A : Type 0} → Digest → Option (List Log) → Passage → Result (Vec (OriginHead A) A) StateFault → Type 0
 ReadsState H logs p (Ok heads) = KnowsHeads H (of_logs logs) p (heads_shown (vec_items heads))
 ReadsState H logs p (Err fault) = RefusesState H logs p fault

@@ -1,5 +1,6 @@
--- The state of a witness, the lines of the links that it saved: what its start knows of it, and what it becomes once it
--- is compacted (C2SP tlog-witness, "add-checkpoint"; the lines are a format of this project). H is the digest function.
+-- The state of a witness: the lines of the links that it saved, what a start learns from them, and what they become
+-- by compacting (C2SP tlog-witness, "add-checkpoint"; the lines are a format of this project). H is the digest
+-- function.
 use Rattle.std.specs.Prelude.{◌≡◌, Bool, true, List, [], ◌∷◌, All, Option, Some, None, filter, map}
 use Rattle.std.specs.Io.KnownBytes.{Consumes, IsAtEnd}
 use Rattle.tl_hash.specs.Bytes.{Bytes, Digest}
@@ -13,7 +14,7 @@ use Rattle.tl_logs.specs.ReadLogs.{is_origin_of}
 
 -- ---- what is known of an origin
 
--- an origin, and the head that its links lead to
+-- an origin, and the tree head that its links lead to
 pub record OriginHead : Type 0 where
   pub origin : Bytes
   pub head : TreeHead
@@ -25,7 +26,7 @@ origin_head origin head = record { origin = origin; head = head }
 abbrev pub end_of : Digest → SavedChain → OriginHead
 end_of H c = origin_head c.origin (last_head (first_head H) c.steps)
 
--- the one step from size 0 to this head
+-- the one step from size 0 to this tree head, without a proof
 abbrev pub whole_step : TreeHead → Step
 whole_step head = step_to head.size head.root []
 
@@ -39,11 +40,11 @@ whole_line o = record { origin = o.origin; step = whole_step o.head }
 
 -- ---- whose lines count
 
--- whether what is saved of an origin counts
+-- whether the lines of an origin count
 abbrev pub Counts : Type 0
 Counts = Bytes → Bool
 
--- that of these logs does, or that of all origins
+-- the origins of these logs count, or all origins
 abbrev pub of_logs : Option (List Log) → Counts
 of_logs None origin = true
 of_logs (Some known) origin = is_origin_of known origin
@@ -52,21 +53,21 @@ of_logs (Some known) origin = is_origin_of known origin
 abbrev pub counting : Counts → List ChainLine → List ChainLine
 counting counts lines = filter (λ l. counts l.origin) lines
 
--- the lines are of links, and of each origin that counts each is accepted from the one before
+-- each line is that of a link, and for each origin that counts each link is accepted from the one before
 pub record AreLawful (H : Digest) (counts : Counts) (lines : List ChainLine) : Type 0 where
   pub each : All IsChainLine lines
   pub linked : All (λ c. IsChain H c.steps) (chains (counting counts lines))
 
 -- ---- the whole of a state
 
--- the reader gave these lines and came to its end
+-- the reader gave these lines and came to its end, and no read failed
 pub record GaveLines (p : Passage) (lines : List ChainLine) : Type 0 where
   pub consumed : Consumes p.old p.new (chain_text lines)
   pub ended : IsAtEnd p.new
   pub steady : IsSteady p
 
--- a state was read, and these are the heads of the origins that count, in the order of their first lines; each has the
--- line of one step
+-- A state was read, and these are the heads of the origins that count, in the order of their first lines. The one
+-- step to each head has a line.
 pub record KnowsHeads (H : Digest) (counts : Counts) (p : Passage) (heads : List OriginHead) : Type 0 where
   pub lines : List ChainLine
   pub gave : GaveLines p lines
@@ -74,7 +75,7 @@ pub record KnowsHeads (H : Digest) (counts : Counts) (p : Passage) (heads : List
   pub same : heads ≡ map (end_of H) (chains (counting counts lines))
   pub written : All (λ o. IsChainLine (whole_line o)) heads
 
--- a state was read, and these bytes say in one line of each origin what it said
+-- a state was read, and these bytes have one line for each of its origins, which leads to the same head
 pub record IsCompacted (H : Digest) (p : Passage) (bytes : Bytes) : Type 0 where
   pub lines : List ChainLine
   pub gave : GaveLines p lines

@@ -10,13 +10,13 @@ use Rattle.tl_logs.specs.State.{AreLawful, Counts, counting, of_logs}
 use Rattle.tl_logs.specs.declared.state_fault.StateFault.{StateFault}
 use Rattle.tl_logs.specs.declared.state_fault.StateFault.TheVariants.{Read, Malformed, Broken, TooLarge, OutOfMemory}
 
--- so many lawful lines stand in front of this
+-- the bytes begin with `place` lawful lines, and this is the rest
 pub record StandsAt (H : Digest) (counts : Counts) (bytes : Bytes) (place : ℕ) (before : List ChainLine) (rest : Bytes) : Type 0 where
   pub lawful : AreLawful H counts before
   pub count : length before ≡ place
   pub joined : bytes ≡ chain_text before ++ rest
 
--- behind them bytes come, and no line of a link
+-- after `place` lawful lines more bytes follow, which begin with no line of a link
 pub record IsMalformedAt (H : Digest) (counts : Counts) (bytes : Bytes) (place : ℕ) : Type 0 where
   pub before : List ChainLine
   pub rest : Bytes
@@ -24,7 +24,7 @@ pub record IsMalformedAt (H : Digest) (counts : Counts) (bytes : Bytes) (place :
   pub more : rest ≢ []
   pub no_line : (l : ChainLine) (after : Bytes) → IsChainLine l → rest ≢ chain_line l ++ after
 
--- behind them comes a line that counts, of a link that isn't accepted from the one before of its origin
+-- after `place` lawful lines follows a line that counts whose link isn't accepted from the one before of its origin
 pub record IsBrokenAt (H : Digest) (counts : Counts) (bytes : Bytes) (place : ℕ) : Type 0 where
   pub before : List ChainLine
   pub line : ChainLine
@@ -34,14 +34,14 @@ pub record IsBrokenAt (H : Digest) (counts : Counts) (bytes : Bytes) (place : �
   pub counted : counts line.origin ≡ true
   pub breaks : ¬ (Follows H (last_head (first_head H) (steps_of line.origin (counting counts before))) line.step)
 
--- the most bytes of a line, 64 MiB, and the most of a state
+-- the most bytes that a line may have, 64 MiB; and a state must have fewer than this many
 abbrev pub longest_line : ℕ
 longest_line = 67108864
 
 abbrev pub most_bytes : ℕ
 most_bytes = 2 ^ 62
 
--- behind some lines comes the beginning of one that is too long; or there are too many bytes
+-- after some lines follows the beginning of a line that is too long; or the state is too long
 pub record HasLongLine (bytes : Bytes) : Type 0 where
   pub before : List ChainLine
   pub line : Bytes
@@ -53,7 +53,7 @@ pub record HasLongLine (bytes : Bytes) : Type 0 where
 abbrev pub IsTooLarge : Bytes → Type 0
 IsTooLarge bytes = HasLongLine bytes ⊎ (most_bytes ≤ length bytes)
 
--- why a state isn't read that begins with these bytes
+-- why a state that begins with these bytes isn't read
 abbrev pub RefusesBytes : Digest → Counts → Bytes → StateFault → Type 0
 RefusesBytes H counts bytes Read = ⊥
 RefusesBytes H counts bytes (Malformed place) = IsMalformedAt H counts bytes place
@@ -61,19 +61,19 @@ RefusesBytes H counts bytes (Broken place) = IsBrokenAt H counts bytes place
 RefusesBytes H counts bytes TooLarge = IsTooLarge bytes
 RefusesBytes H counts bytes OutOfMemory = 0 < length bytes
 
--- the reader gave such bytes
+-- the reader gave bytes that are refused for this reason, and no read failed
 pub record GaveRefused (H : Digest) (counts : Counts) (p : Passage) (fault : StateFault) : Type 0 where
   pub bytes : Bytes
   pub consumed : Consumes p.old p.new bytes
   pub steady : IsSteady p
   pub refused : RefusesBytes H counts bytes fault
 
--- a read failed, or the state is refused by what was given of it
+-- a read failed, or what was read is refused
 abbrev pub RefusesReading : Digest → Counts → Passage → StateFault → Type 0
 RefusesReading H counts p Read = HasFailed p
 RefusesReading H counts p fault = GaveRefused H counts p fault
 
--- the same; memory is asked for a log, too
+-- why a state isn't read; memory may also run out for a log
 abbrev pub RefusesState : Digest → Option (List Log) → Passage → StateFault → Type 0
 RefusesState H logs p OutOfMemory = IsSomeAnd logs (λ known. 0 < length known) ⊎ RefusesReading H (of_logs logs) p OutOfMemory
 RefusesState H logs p fault = RefusesReading H (of_logs logs) p fault

@@ -1,4 +1,4 @@
-//! Finds the place of an origin in a list, in time that grows with the logarithm of the list's length.
+//! Finding the position of an origin in a list, in time that grows with the logarithm of the list's length.
 
 ghost use Rattle.std.specs.Prelude.{◌≡◌, None, OnErr, OnOk};
 ghost use Rattle.tl_hash.specs.Bytes.{Bytes};
@@ -7,14 +7,14 @@ ghost use Rattle.tl_logs.specs.Inner.ByOrigin.{PutsOrigin, index_of};
 use std::alloc::{AllocError, Allocator};
 use std::collections::BTreeMap;
 
-/// Which place each origin has. A contract sees it by `index_of`, the function from an origin to its place.
+/// Maps each origin to its position. A contract sees it by `index_of`, the function from an origin to its position.
 #[derive(Drop)]
 pub(crate) struct ByOrigin<A: Allocator> {
     places: BTreeMap<String<A>, usize, A>,
 }
 
 impl<A: Allocator + Copy> ByOrigin<A> {
-    /// No origin has a place. It takes no memory.
+    /// Returns an empty map. It allocates nothing.
     pub(crate) fn new(alloc: A) -> Self
         ensures { (origin : Bytes) → index_of result origin ≡ None }
     {
@@ -23,14 +23,14 @@ impl<A: Allocator + Copy> ByOrigin<A> {
         }
     }
 
-    /// The place of an origin.
+    /// Returns the position of an origin, or `None` if it has none.
     pub(crate) fn find(&self, origin: &str) -> Option<usize>
         ensures { result ≡ index_of self.now origin.now }
     {
         self.places.get(origin).copied()
     }
 
-    /// Gives an origin this place, and no longer another. It fails only where a growth was refused, and then changes
+    /// Gives an origin this position, in place of an earlier one. It fails only if allocation fails, and then changes
     /// nothing.
     pub(crate) fn add(&mut self, alloc: A, origin: &str, place: usize) -> Result<(), AllocError>
         ensures added { OnOk result

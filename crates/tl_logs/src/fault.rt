@@ -1,16 +1,16 @@
-//! Why the file of the logs isn't read.
+//! Why the file of logs isn't read.
 
 use std::error::Error;
 use std::fmt::{self, Display, Formatter};
 
-/// Why the file of the logs isn't read. Lines are counted from 1.
+/// Why the file of logs isn't read. Lines are counted from 1.
 #[derive(Clone, Copy, Debug, PartialEq, Eq)]
 pub enum LogsFault {
-    /// This line is none of the file's, and the first that isn't taken.
+    /// This line, the first bad one, has no form that a line of the file may have.
     Malformed(u64),
-    /// This line gives a log a key that it has, and is the first that isn't taken.
+    /// This line, the first bad one, gives a log a key that the log already has.
     Twice(u64),
-    /// A growth was refused.
+    /// Allocation failed.
     OutOfMemory,
 }
 

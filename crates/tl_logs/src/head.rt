@@ -1,4 +1,4 @@
-//! What the state of a witness says of an origin.
+//! The head of each origin in the state of a witness.
 
 ghost use Rattle.std.specs.Prelude.{◌≡◌, ◌<◌, All, IfOk, OnErr, length, map, string_bytes};
 ghost use Rattle.tl_witness.specs.ChainLine.{IsChainLine, chain_text};
@@ -12,10 +12,10 @@ use tl_hash::Hash;
 use tl_proof::{HashList, Link};
 use tl_witness::write_chain_line;
 
-/// The head that the saved links of an origin lead to.
+/// The size and root that the saved links of an origin lead to.
 #[derive(Drop)]
 pub struct OriginHead<A: Allocator> {
-    /// The log's name, the origin of its checkpoints.
+    /// The log's name, which is the origin of its checkpoints.
     pub origin: String<A>,
     /// The number of entries.
     pub size: u64,
@@ -24,7 +24,7 @@ pub struct OriginHead<A: Allocator> {
 }
 
 impl<A: Allocator + Copy> OriginHead<A> {
-    // The link that leads there from size 0, without a proof.
+    // Returns the link from size 0 to this head, without a proof.
     fn link(&self, alloc: A) -> Link<A>
         ensures { step_of result ≡ whole_step (head_shown self.now).head }
     {
@@ -36,7 +36,8 @@ impl<A: Allocator + Copy> OriginHead<A> {
     }
 }
 
-/// The chain of each origin in one link, from size 0 without a proof. It fails only where a growth was refused.
+/// Returns for each origin a chain of one link, from size 0 to its head without a proof. It fails only if allocation
+/// fails.
 pub fn whole_chains<A: Allocator + Copy>(
     alloc: A,
     heads: Vec<OriginHead<A>, A>,
@@ -53,7 +54,7 @@ pub fn whole_chains<A: Allocator + Copy>(
     Ok(chains)
 }
 
-/// The lines of these chains, one for each origin. It fails only where a growth was refused.
+/// Returns the lines of these chains, one for each origin. It fails only if allocation fails.
 pub(crate) fn whole_lines<A: Allocator + Copy>(
     alloc: A,
     heads: &[OriginHead<A>],

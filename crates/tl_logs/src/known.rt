@@ -11,13 +11,13 @@ use crate::by_origin::ByOrigin;
 use crate::log::KnownLog;
 use std::alloc::{AllocError, Allocator};
 
-/// Which origins count: all, or those that have places.
+/// Which origins count: all, or those in the map.
 #[derive(Drop)]
 pub(crate) struct Counting<A: Allocator> {
     places: Option<ByOrigin<A>>,
 }
 
-// The places of the origins of logs. It fails only where a growth was refused.
+// Returns the positions of the logs' origins. It fails only if allocation fails.
 fn places_of<A: Allocator + Copy>(alloc: A, logs: &[KnownLog<A>]) -> Result<ByOrigin<A>, AllocError>
     ensures places { IfOk result (λ places. (origin : Bytes)
         → is_some (index_of places origin) ≡ is_origin_of (logs_shown logs.now) origin) }
@@ -31,14 +31,14 @@ fn places_of<A: Allocator + Copy>(alloc: A, logs: &[KnownLog<A>]) -> Result<ByOr
 }
 
 impl<A: Allocator + Copy> Counting<A> {
-    /// All origins count. It takes no memory.
+    /// Returns a value by which all origins count. It allocates nothing.
     pub(crate) fn all() -> Self
         ensures { counts_of result ≡ of_logs None }
     {
         Counting { places: None }
     }
 
-    /// The origins of these logs count. It fails only where a growth was refused.
+    /// Returns a value by which the origins of these logs count. It fails only if allocation fails.
     pub(crate) fn of(alloc: A, logs: &[KnownLog<A>]) -> Result<Self, AllocError>
         ensures counts { IfOk result
             (λ counting. counts_of counting ≡ of_logs (Some (logs_shown logs.now))) }
@@ -50,7 +50,7 @@ impl<A: Allocator + Copy> Counting<A> {
         })
     }
 
-    /// Whether what is saved of an origin counts.
+    /// Reports whether the lines of an origin count.
     pub(crate) fn counts(&self, origin: &str) -> bool
         ensures { result ≡ counts_of self.now origin.now }
     {

@@ -1,4 +1,4 @@
-//! One line of the file of the logs.
+//! One line of the file of logs.
 
 ghost use Rattle.std.specs.Prelude.{◌≡◌, ◌↔◌, IsTrue};
 ghost use Rattle.tl_logs.specs.LogsFile.{IsPassedOver};
@@ -9,14 +9,14 @@ use std::str;
 use tl_key::{KeyFault, NoteVerifier, read_verifier_key};
 use tl_note::{Verifier, is_key_name};
 
-/// A key, and the name of the log that a line gives it.
+/// A key, and the name of the log that a line gives it to.
 #[derive(Drop)]
 pub(crate) struct KeyLine<A: Allocator> {
     pub(crate) origin: String<A>,
     pub(crate) key: NoteVerifier<A>,
 }
 
-/// Why a line isn't taken.
+/// Why a line isn't accepted.
 #[derive(Clone, Copy)]
 pub(crate) enum LineFault {
     Malformed,
@@ -46,7 +46,7 @@ impl<X: Drop> From<AllocFailed<X>> for LineFault {
     }
 }
 
-// Whether a line is passed over.
+// Reports whether the line is skipped: it is empty or begins with `#`.
 fn is_passed_over(words: &[u8]) -> bool
     ensures { IsTrue result ↔ IsPassedOver words.now }
 {
@@ -56,7 +56,7 @@ fn is_passed_over(words: &[u8]) -> bool
     }
 }
 
-// The key that a text is of.
+// Parses a verifier key.
 fn read_key<A: Allocator + Send + Sync>(alloc: A, text: &str) -> Result<NoteVerifier<A>, LineFault>
     ensures { ReadsText text.now result }
 {
@@ -67,7 +67,7 @@ fn read_key<A: Allocator + Send + Sync>(alloc: A, text: &str) -> Result<NoteVeri
     }
 }
 
-// The key that a text is of, for the log of its name.
+// Parses a verifier key, whose name is the log's.
 fn key_alone<A: Allocator + Copy + Send + Sync>(
     alloc: A,
     text: &str,
@@ -84,7 +84,7 @@ fn key_alone<A: Allocator + Copy + Send + Sync>(
     Ok(KeyLine { origin, key })
 }
 
-// The key that stands in a text behind the name of its log.
+// Parses a log's name, a space and a verifier key.
 fn key_behind<A: Allocator + Copy + Send + Sync>(
     alloc: A,
     text: &str,
@@ -107,7 +107,7 @@ fn key_behind<A: Allocator + Copy + Send + Sync>(
     Ok(KeyLine { origin, key })
 }
 
-// The key that a text names.
+// Parses a line that gives a key, in either form.
 fn key_in<A: Allocator + Copy + Send + Sync>(alloc: A, text: &str) -> Result<KeyLine<A>, LineFault>
     ensures { ReadsNamed text.now result }
 {
@@ -119,7 +119,8 @@ fn key_in<A: Allocator + Copy + Send + Sync>(alloc: A, text: &str) -> Result<Key
     }
 }
 
-/// The key that a line gives, or none where it is passed over. Memory is asked for after the line is known to be right.
+/// Returns the key that a line gives, or `None` if the line is skipped. `OutOfMemory` comes only for a line that
+/// gives a key.
 pub(crate) fn read_line<A: Allocator + Copy + Send + Sync>(
     alloc: A,
     words: &[u8],

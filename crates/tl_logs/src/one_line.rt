@@ -9,7 +9,7 @@ use std::alloc::Allocator;
 use tl_proof::Link;
 use tl_witness::{ChainFault, read_chain};
 
-/// The link of a line, which ends with its newline, and its origin.
+/// Returns the origin and the link of a line, which ends with its newline.
 pub(crate) fn read_link<A: Allocator + Copy>(
     alloc: A,
     line: &[u8],

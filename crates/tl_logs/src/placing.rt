@@ -1,4 +1,4 @@
-//! Puts the key of a line behind those of its log.
+//! Adding the key of a line to those of its log.
 
 ghost use Rattle.std.specs.Prelude.{◌≡◌, ◌↔◌, ◌∷◌, [], IfOk, IsTrue, OnOk, map, string_bytes, vec_items};
 ghost use Rattle.tl_logs.specs.LogsFile.{key_name, log};
@@ -14,14 +14,14 @@ use std::alloc::{AllocError, Allocator};
 use tl_key::NoteVerifier;
 use tl_note::Verifier;
 
-// Whether two keys have one name and identifier.
+// Reports whether two keys have the same name and identifier.
 fn is_same<A: Allocator + Send + Sync>(key: &NoteVerifier<A>, other: &NoteVerifier<A>) -> bool
     ensures { IsTrue result ↔ (key_name key.now ≡ key_name other.now) }
 {
     key.key_id() == other.key_id() && key.name() == other.name()
 }
 
-// Whether one of these has a key's name and identifier.
+// Reports whether one of the keys has this key's name and identifier.
 fn has_key<A: Allocator + Send + Sync>(keys: &[NoteVerifier<A>], key: &NoteVerifier<A>) -> bool
     ensures { IsTrue result ↔ IsOneOf key.now keys.now }
 {
@@ -33,7 +33,7 @@ fn has_key<A: Allocator + Send + Sync>(keys: &[NoteVerifier<A>], key: &NoteVerif
     false
 }
 
-// Puts a key behind those of a log, if the log hasn't got it.
+// Appends a key to those of a log, unless the log has it already.
 fn add_key<A: Allocator + Send + Sync>(
     known: &mut KnownLog<A>,
     key: NoteVerifier<A>,
@@ -48,7 +48,7 @@ fn add_key<A: Allocator + Send + Sync>(
     Ok(())
 }
 
-// A log of one key.
+// Returns a log with one key.
 fn first_key<A: Allocator + Copy + Send + Sync>(
     alloc: A,
     line: KeyLine<A>,
@@ -62,7 +62,7 @@ fn first_key<A: Allocator + Copy + Send + Sync>(
     Ok(KnownLog { origin, keys })
 }
 
-// Puts a key behind those of its log, whose place the index has.
+// Appends a key to those of its log, whose position the map has, or begins a new log.
 fn put_key<A: Allocator + Copy + Send + Sync>(
     alloc: A,
     logs: &mut Vec<KnownLog<A>, A>,
@@ -86,7 +86,7 @@ fn put_key<A: Allocator + Copy + Send + Sync>(
     }
 }
 
-/// Takes a line: puts the key that it gives behind those of its log, whose place the index has.
+/// Adds the key that a line gives, if it gives one, to those of its log, whose position the map has.
 pub(crate) fn take_line<A: Allocator + Copy + Send + Sync>(
     alloc: A,
     logs: &mut Vec<KnownLog<A>, A>,

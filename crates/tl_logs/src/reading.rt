@@ -1,4 +1,4 @@
-//! Reads the file of the logs that a witness knows.
+//! Reading the file of logs.
 
 ghost use Rattle.std.specs.Prelude.{◌≡◌, ◌==◌, position};
 ghost use Rattle.tl_logs.specs.ReadLogs.{ReadsLogs};
@@ -12,14 +12,14 @@ use crate::log::KnownLog;
 use crate::placing::take_line;
 use std::alloc::Allocator;
 
-/// The place of the first newline.
+/// Returns the position of the first newline.
 pub(crate) fn first_newline(bytes: &[u8]) -> Option<usize>
     ensures { result ≡ position (λ byte. byte == 10) bytes.now }
 {
     bytes.iter().position(|byte| *byte == b'\n')
 }
 
-// The first line of bytes, without its newline, and what follows it.
+// Returns the first line, without its newline, and what follows it.
 fn cut_line(bytes: &[u8]) -> (&[u8], &[u8])
     ensures { CutsLine bytes.now result.0.now result.1.now }
 {
@@ -29,7 +29,7 @@ fn cut_line(bytes: &[u8]) -> (&[u8], &[u8])
     }
 }
 
-// Why the line with this number isn't taken.
+// Converts the fault of the line with this number.
 fn fault_at(fault: LineFault, line: u64) -> LogsFault
     ensures { result ≡ fault_at fault line }
 {
@@ -40,10 +40,10 @@ fn fault_at(fault: LineFault, line: u64) -> LogsFault
     }
 }
 
-/// The logs that the lines of a file give keys, in the order of their first lines, each with its keys in order. A line
-/// is `KEY`, the text of a note verifier's key, whose name is then the log's, or `ORIGIN KEY`; empty lines and those
-/// that begin with `#` are passed over. `Malformed` names the first line that is none of these, `Twice` the first whose
-/// key, by name and identifier, its log has already, whichever comes first. Lines are counted from 1.
+/// Reads the file of logs. Returns the logs in the order of their first lines, each with its keys in order. A line is
+/// `KEY`, a verifier key (C2SP signed-note) whose name is the log's, or `ORIGIN KEY`. Empty lines and those that
+/// begin with `#` are skipped. `Malformed` has the first line that is none of these, `Twice` the first whose key, by
+/// name and identifier, its log already has, whichever comes first. Lines are counted from 1.
 pub fn read_logs<A: Allocator + Copy + Send + Sync>(
     alloc: A,
     bytes: &[u8],

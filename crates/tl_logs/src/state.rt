@@ -1,4 +1,4 @@
-//! Reads the state of a witness as a stream: a line at a time, and of each origin its last head is kept.
+//! Reading the state of a witness as a stream. Of each origin only its last head is kept.
 
 ghost use Rattle.std.specs.Prelude.{◌≡◌, ◌<◌, IfErr, IfOk, IsSomeAnd, OnErr, length, option_map};
 ghost use Rattle.tl_device.specs.Device.{passage};
@@ -18,13 +18,13 @@ use std::io::Read;
 use tl_device::Counted;
 use tl_hash::TreeHash;
 
-// How many bytes are read at once.
+// The number of bytes of a read.
 const BLOCK: usize = 65_536;
 
-// How many bytes are too many, 2^62.
+// A state must be shorter than this: 2^62 bytes.
 const MOST_BYTES: u64 = 4_611_686_018_427_387_904;
 
-// Whose lines count.
+// Returns which origins count.
 fn counting_of<A: Allocator + Copy>(
     alloc: A,
     logs: Option<&[KnownLog<A>]>,
@@ -40,7 +40,7 @@ fn counting_of<A: Allocator + Copy>(
     }
 }
 
-// The heads of the origins whose lines count.
+// Returns the heads of the origins that count.
 fn read_counting<T: TreeHash, A: Allocator + Copy, R: Read>(
     alloc: A,
     tree: T,
@@ -71,10 +71,10 @@ fn read_counting<T: TreeHash, A: Allocator + Copy, R: Read>(
     Err(StateFault::TooLarge)
 }
 
-/// The head that the saved links of each origin lead to, in the order of the first lines; of these logs, or of all. The
-/// lines are read as they come, to the end, and each that counts is checked against the one before of its origin: the
-/// first that is wrong is told. The last one too ends with its newline. It takes the memory of one line and of the
-/// heads. The time grows with the bytes, and with the logarithm of the number of origins.
+/// Returns the head that the saved links of each origin lead to, in the order of the first lines: of the origins of
+/// these logs, or of all if `logs` is `None`. Reads the lines one by one, and checks each that counts against the one
+/// before of its origin. The error has the first line that is wrong. The last line must end with a newline. Only one
+/// line and the heads are in memory. The time grows with the bytes and the logarithm of the number of origins.
 pub fn read_state<T: TreeHash, A: Allocator + Copy, R: Read>(
     alloc: A,
     tree: T,
@@ -88,8 +88,8 @@ pub fn read_state<T: TreeHash, A: Allocator + Copy, R: Read>(
     read_counting(alloc, tree, &counting, reader)
 }
 
-/// The lines of a state that says of each origin in one line, from size 0 without a proof, what this one says: all of
-/// its origins, in the order of their first lines. Each line is checked as where all origins count.
+/// Returns a state that has one line for each origin, from size 0 without a proof, and leads to the same heads as the
+/// one read. It has all origins of that state, in the order of their first lines, and every line is checked.
 pub fn compact_state<T: TreeHash, A: Allocator + Copy, R: Read>(
     alloc: A,
     tree: T,

@@ -11,16 +11,16 @@ pub enum StateFault {
     /// A read failed.
     #[error("read failed")]
     Read,
-    /// This line is the first that is wrong: it is no line of a link.
+    /// This line is the first that is wrong: it isn't the line of a link.
     #[error("line {0} is malformed")]
     Malformed(u64),
     /// This line is the first that is wrong: its link isn't accepted from the one before of its origin.
     #[error("the link of line {0} isn't accepted")]
     Broken(u64),
-    /// A line has more than 64 MiB, or all have 2^62 bytes.
+    /// A line is longer than 64 MiB, or the state has 2^62 bytes.
     #[error("too large")]
     TooLarge,
-    /// A growth was refused.
+    /// Allocation failed.
     #[error("out of memory")]
     OutOfMemory,
 }

@@ -1,4 +1,4 @@
-//! What was read of the state of a witness so far.
+//! The part of a witness's state that was read so far.
 
 ghost use Rattle.std.specs.Prelude.{◌≡◌, ◌≢◌, ◌<◌, ◌^◌, ◌∷◌, ◌++◌, [], IfErr, IfOk, length};
 ghost use Rattle.tl_hash.specs.Bytes.{Bytes};
@@ -23,11 +23,11 @@ use tl_hash::TreeHash;
 use tl_proof::Link;
 use tl_witness::ChainFault;
 
-// The most bytes of a line, 64 MiB.
+// The most bytes that a line may have, 64 MiB.
 const LONGEST_LINE: usize = 67_108_864;
 
-/// What was read of the state of a witness so far. Contracts see the heads that lines which count lead to, the number
-/// of lines, and the bytes that came of the next one.
+/// What was read of a state so far. Contracts see the heads that the counting lines lead to, the number of lines, and
+/// the bytes of the next line that have come.
 #[derive(Drop)]
 pub(crate) struct StateReading<T: TreeHash, A: Allocator> {
     alloc: A,
@@ -56,7 +56,7 @@ impl<T: TreeHash, A: Allocator> Model for StateReading<T, A> {
         Indexes (index_of s.index) (head_origins (heads_shown s.heads.items)) };
 }
 
-// What comes of a link that was taken or not, behind so many lines.
+// Converts the outcome of taking the link of this line.
 fn outcome_at(outcome: Result<(), LinkFault>, line: u64) -> Result<(), StateFault>
     ensures { result ≡ link_outcome outcome line }
 {
@@ -68,7 +68,7 @@ fn outcome_at(outcome: Result<(), LinkFault>, line: u64) -> Result<(), StateFaul
 }
 
 impl<T: TreeHash, A: Allocator + Copy> StateReading<T, A> {
-    /// Nothing was read.
+    /// Returns the value before anything was read.
     pub(crate) fn new(alloc: A, tree: T) -> Self
         ensures { result ≡ record { heads = []; line = 0; begun = [] } }
     {
@@ -82,7 +82,7 @@ impl<T: TreeHash, A: Allocator + Copy> StateReading<T, A> {
         }
     }
 
-    // Keeps a link as the last one of its origin, if that counts.
+    // Takes a link as the last one of its origin, if that origin counts.
     fn keep(
         &mut self,
         counting: &Counting<A>,
@@ -102,7 +102,7 @@ impl<T: TreeHash, A: Allocator + Copy> StateReading<T, A> {
         outcome_at(outcome, self.line)
     }
 
-    // Takes bytes of the line that is begun.
+    // Appends bytes to the line that has begun.
     fn begin(&mut self, part: &[u8]) -> Result<(), StateFault>
         requires { IsInOneLine part.now }
         ensures { (counts : Counts) (input after : Bytes) → 0 < length (part.now ++ after)
@@ -116,7 +116,7 @@ impl<T: TreeHash, A: Allocator + Copy> StateReading<T, A> {
         Ok(())
     }
 
-    // Takes the newline of the line that is begun.
+    // Ends the line that has begun with its newline, and takes its link.
     fn end_line(&mut self, counting: &Counting<A>) -> Result<(), StateFault>
         ensures { (input after : Bytes) → length (input ++ after) < 2 ^ 63
             → HasRead T.digest_of (counts_of counting.now) self.old input
@@ -138,7 +138,7 @@ impl<T: TreeHash, A: Allocator + Copy> StateReading<T, A> {
         Ok(())
     }
 
-    // Takes bytes up to their first newline, or all of them: what is left.
+    // Takes the bytes up to and with the first newline, or all if there is none. Returns the rest.
     fn take_some<'b>(
         &mut self,
         counting: &Counting<A>,
@@ -193,7 +193,7 @@ impl<T: TreeHash, A: Allocator + Copy> StateReading<T, A> {
         Ok(())
     }
 
-    /// The heads, where the state ends here. `Malformed`: a line is begun.
+    /// Returns the heads if the state ends here. `Malformed` means that its last line has no newline.
     pub(crate) fn end(self) -> Result<Vec<OriginHead<A>, A>, StateFault>
         ensures heads { IfOk result
             (λ heads. (self.begun ≡ []) × (heads_shown heads.items ≡ self.heads)) }

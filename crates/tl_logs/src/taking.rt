@@ -1,4 +1,4 @@
-//! Takes a link as the last one of its origin.
+//! Taking a link as the last one of its origin.
 
 ghost use Rattle.std.specs.Prelude.{◌≡◌, ◌↔◌, IsTrue};
 ghost use Rattle.tl_proof.specs.Acceptance.{step_of};
@@ -16,9 +16,9 @@ use tl_proof::{Link, check_tree};
 /// Why a link isn't taken.
 #[derive(Clone, Copy)]
 pub(crate) enum LinkFault {
-    /// It isn't accepted from the head of its origin.
+    /// The link isn't accepted from the head of its origin.
     Broken,
-    /// A growth was refused.
+    /// Allocation failed.
     OutOfMemory,
 }
 
@@ -44,7 +44,7 @@ impl<X: Drop> From<AllocFailed<X>> for LinkFault {
     }
 }
 
-// Moves a head to where a link leads, if the link is accepted from it.
+// If the link is accepted from the head, moves the head to the one that the link leads to and returns true.
 fn move_head<T: TreeHash, A: Allocator>(tree: T, head: &mut OriginHead<A>, link: &Link<A>) -> bool
     ensures { MovesOne T.digest_of (step_of link.now)
         (head_shown head.old) (head_shown head.new) result }
@@ -58,7 +58,7 @@ fn move_head<T: TreeHash, A: Allocator>(tree: T, head: &mut OriginHead<A>, link:
     true
 }
 
-// Whether a link is accepted as the first one of its origin.
+// Reports whether a link is accepted as the first one of its origin.
 fn is_first<T: TreeHash, A: Allocator>(tree: T, link: &Link<A>) -> bool
     ensures { IsTrue result ↔ Follows T.digest_of (first_head T.digest_of) (step_of link.now) }
 {
@@ -66,8 +66,8 @@ fn is_first<T: TreeHash, A: Allocator>(tree: T, link: &Link<A>) -> bool
     check_tree(tree, proof, link.size, link.root, 0, empty_hash(tree))
 }
 
-/// Takes a link as the last one of its origin, whose place the index has, if it is accepted from the head that the
-/// origin has, or else from size 0.
+/// Takes a link as the last one of its origin, whose position the map has. The link must be accepted from the head of
+/// the origin or, if it has none, from size 0.
 pub(crate) fn take_link<T: TreeHash, A: Allocator + Copy>(
     alloc: A,
     tree: T,

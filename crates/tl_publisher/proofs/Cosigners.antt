@@ -28,13 +28,13 @@ use Rattle.tl_publisher.specs.Proposing.{IsCosigned, IsAttached, Attaches}
 use Rattle.tl_publisher.specs.Inner.Attaching.{HasBehind}
 use Rattle.tl_publisher.proofs.Operations.{operating_next, operating_still}
 
--- the line at the place of a cosignature
+-- the line at the position of a cosignature
 abbrev pub IsAt : List Signature → Cosigned → Signature → Type 0
 IsAt lines c line = slice_get lines c.line ≡ Some line
 
 -- ---- the lines of the note
 
--- no witness is under no quorum
+-- without a quorum there is no witness
 pub no_others : (text : List ℕ) (lines : List Signature) (places : List ℕ) → AllZip (IsByWitness text []) places lines → lines ≡ []
 no_others text [] places each = refl
 no_others text (l ∷ lines) [] each = absurd each
@@ -79,7 +79,7 @@ cosigned_places found apart i j d less within same =
     let e : Cosigned = record { line = 0; witness = d; time = 0 } in
     apart i j e less (omega (arith, within, long)) (sym (get_or-map (λ (c : Cosigned). c.witness) found i e d (omega (arith, less, within, long))) ∙ same ∙ get_or-map (λ (c : Cosigned). c.witness) found j e d (omega (arith, within, long)))
 
--- by another witness each
+-- each is by another witness
 pub cosigned_of : (text : List ℕ) (keys : List Key) (lines kept : List Signature) (found : List Cosigned) → AreFirst text keys lines found → AllZip (IsAt lines) found kept → AreCosigned text keys kept
 cosigned_of text keys lines kept found first at = record {
   places = map (λ c. c.witness) found;
@@ -138,7 +138,7 @@ note_cosigned a q lines note is = record {
   enough = (let long = AllZip-long (IsAt lines) is.found is.kept is.each in omega (arith, long, is.enough));
 }
 
--- one line more behind the note
+-- the note with one line more
 pub behind_more : (note : List ℕ) (lines : List Signature) (found : List Cosigned) (index : ℕ) (c : Cosigned) (line : Signature) (before after : List ℕ) → index < length found → c ≡ get_or found index c → slice_get lines c.line ≡ Some line
     → HasBehind note lines (take index found) before → after ≡ before ++ signature_line line → HasBehind note lines (take (index + 1) found) after
 behind_more note lines found index c line before after less at has (kept, each, spelled) pushed = (
@@ -169,7 +169,7 @@ proposed_entries (Some x) entries bytes q is = ap (λ (p : Prefix). p.entries) (
     one : (x y : Prefix) → Some x ≡ Some y → x ≡ y
     one x y e = cc
 
--- the lines of enough witnesses behind the note of what is proposed
+-- the note of the proposal, followed by the lines of enough witnesses
 pub cosigns_note : {A : Type 0} (a : Operated A) (q : Prefix) (words : List ℕ) (lines : List Signature) (found : List Cosigned) (text whole : List ℕ) → IsOperating a → a.proposal ≡ Some q → AreLines words lines → text ≡ text_of_log a.origin q.entries
     → AreFirst text a.quorum.witnesses lines found → a.quorum.need ≤ length found → HasBehind q.note lines found whole → IsCosigned a q lines whole
 cosigns_note a q words lines found text whole is at are same first enough (kept, each, spelled) =

@@ -1,4 +1,4 @@
--- A growth that goes on from another.
+-- A growth that continues another.
 use Rattle.std.proofs.Common.{◌≡◌, ℕ, ◌+◌, ◌-◌, ◌≤◌, List, [], ◌++◌, length, take, drop, sym, ap, subst, ◌∙◌, arith}
 use Rattle.std.specs.Prelude.{Result, Ok, Err, OnOk, OnErr}
 use Rattle.std.proofs.lemmas.List.{length-append, take_all, take-append-drop, length-take-le}
@@ -13,7 +13,7 @@ use Rattle.tl_publisher.specs.Grown.{Grown, texts_of, IsGrown}
 use Rattle.tl_publisher.specs.Running.{IsRunning}
 use Rattle.tl_publisher.proofs.Nexts.{filled_stays, filled_more}
 
--- nothing waits yet of what goes on from here
+-- nothing waits yet in a growth that continues this one
 pub grown_forked : (H : List ℕ → List ℕ) (start : ℕ) (entries : List (List ℕ)) (g : Grown) (edge : EdgeContents) (bundle : List ℕ) (waiting : List (List (List ℕ))) → IsGrown H start entries g → edge.size ≡ g.edge.size → edge.kept ≡ g.edge.kept → bundle ≡ g.bundle → waiting ≡ []
     → IsGrown H (length entries) entries (record { edge = edge; bundle = bundle; waiting = waiting })
 grown_forked H start entries g edge bundle waiting is size kept same none_waits = record {
@@ -67,7 +67,7 @@ joined_running log g h k p is next size join =
       growth = subst (λ (es : List (List ℕ)). IsGrown sha256 (last_size p.past.log) es k) (seam ∙ sym (take_all k.edge.size E (omega (arith, whole)))) made;
     }
 
--- the same where memory may be refused
+-- the same if allocation may fail
 pub joins_running : {X E A : Type 0} (r : Result X E) (log : Log A) (g h k : Grown) (p : Board) → IsRunning log g p → IsGrown sha256 g.edge.size (entries_of log) h → OnOk r (k.edge.size ≡ h.edge.size)
     → ((start : ℕ) (entries more : List (List ℕ)) → IsGrown sha256 start entries g → IsGrown sha256 (length entries) (entries ++ more) h → OnOk r (IsGrown sha256 start (entries ++ more) k))
     → OnErr r (k ≡ g) → IsRunning log k p

@@ -35,7 +35,7 @@ use Rattle.tl_publisher.proofs.Nexts.{follows_growing}
 use Rattle.tl_publisher.proofs.Notes.{next_of}
 use Rattle.tl_publisher.proofs.Encoded.{all_encoded}
 
--- a note that nobody had to cosign is one for each quorum of none
+-- a note that nobody had to cosign is one for each quorum that needs nobody
 lone_note : (keys : List SigningKey) (q : Quorum) (text bytes : List ℕ) → q.need ≡ 0 → IsSignedNote keys no_quorum text bytes → IsSignedNote keys q text bytes
 lone_note keys q text bytes free is = record {
   own = is.own;
@@ -171,7 +171,7 @@ module _ {A : Type 0} where
         encoded = all_encoded o.origin o.signers o.quorum (entries_of complete) past.log beginnings signed;
       }
 
--- want of a place or of memory, where nothing else is wrong
+-- `Place` or `OutOfMemory`, if nothing else is wrong
 pub want_refuses : (origin : List ℕ) (signers : List SigningKey) (lanes capacity limit readers : ℕ) (fault : OperatorFault) → MayOpenAll origin signers readers → MayOpen lanes capacity limit → IsWant fault
     → OpenRefusesOperator origin signers lanes capacity limit readers fault
 want_refuses origin signers lanes capacity limit readers operator.Place all may is = (all, may)
@@ -181,7 +181,7 @@ want_refuses origin signers lanes capacity limit readers operator.Signers all ma
 want_refuses origin signers lanes capacity limit readers operator.Readers all may is = absurd is
 want_refuses origin signers lanes capacity limit readers (operator.Lanes fault) all may is = absurd is
 
--- the same where it is handed on
+-- the same for a caller that returns the fault
 pub want_passes : {T : Type 0} (origin : List ℕ) (signers : List SigningKey) (lanes capacity limit readers : ℕ) (given : OperatorFault) (r : Result T OperatorFault) → IsErrAnd r (λ fault. fault ≡ given) → IsWant given
     → MayOpenAll origin signers readers → MayOpen lanes capacity limit → IfErr r (λ fault. OpenRefusesOperator origin signers lanes capacity limit readers fault)
 want_passes origin signers lanes capacity limit readers given (Ok x) same want all may = tt

@@ -115,12 +115,12 @@ sign_stops a b size root (publish.Sign place) free fresh head same told =
 sign_stops a b size root publish.Quorum free fresh head same told = absurd told
 sign_stops a b size root publish.OutOfMemory free fresh head same told = (free, fresh, same)
 
--- what is answered where a fault is handed on
+-- what is answered when a caller returns the fault
 pub passes : {T F : Type 0} (P : Result T F → Type 0) (given : F) (r : Result T F) → IsErrAnd r (λ fault. fault ≡ given) → P (Err given) → P r
 passes P given (Ok x) same is = absurd same
 passes P given (Err fault) same is = subst (λ (f : _). P (Err f)) (sym same) is
 
--- what stays is said of each fault
+-- what doesn't depend on the fault holds for each
 pub same_err : {T F : Type 0} (r : Result T F) (P : Type 0) → P → IfErr r (λ _. P)
 same_err (Ok x) P is = tt
 same_err (Err fault) P is = is

@@ -1,4 +1,4 @@
--- A log that goes on from the bundles of a checkpoint.
+-- A log that is resumed from the bundles of a checkpoint.
 use Rattle.std.proofs.Common.{◌≡◌, ℕ, zero, suc, ◌+◌, ◌*◌, ◌/◌, ◌%◌, ◌<◌, ◌≤◌, Bool, true, false, not, cond, inl, inr, List, [], ◌∷◌, ◌++◌, length, map, take, drop, get_or, vec_items, refl, sym, ap, subst, ◌∙◌, arith}
 use Rattle.std.specs.Result.{IsErrAnd}
 use Rattle.std.specs.Prelude.{Result, Ok, Err, IfErr, slice_index_or, nat_lt, ◌==◌, if◌then◌else◌}
@@ -54,18 +54,18 @@ full_width size place less = ap (λ (b : Bool). cond b 256 (size % 256)) (lt-ltb
 last_width : (size place : ℕ) → size / 256 ≤ place → bundle_width size place ≡ size % 256
 last_width size place le = ap (λ (b : Bool). cond b 256 (size % 256)) (false_from_ne_true (nat_lt place (size / 256)) (λ is. (let less = ltb-true place (size / 256) is in absurd (omega (arith, less, le)))))
 
--- the bundle at a place
+-- the bundle at a position
 pub item_at : {A : Type 0} (bundles : List (Vec ℕ A)) (place : ℕ) (v : Vec ℕ A) → place < length bundles → v ≡ get_or bundles place v → slice_index_or (map vec_items bundles) place [] ≡ vec_items v
 item_at bundles place v inside at = get_or-map vec_items bundles place v [] inside ∙ ap vec_items (sym at)
 
--- ---- an entry at a place
+-- ---- an entry at a position
 
 pub entry_short : {A : Type 0} (entries : List (Vec ℕ A)) (index : ℕ) (v : Vec ℕ A) → index < length entries → v ≡ get_or entries index v → AreShortEntries (map vec_items entries) → IsShortEntry (vec_items v)
 entry_short entries index v inside at short = (let many = length-map entries vec_items in subst IsShortEntry (item_at entries index v inside at) (short index [] (omega (arith, many, inside))))
 
--- ---- the bundles before a place
+-- ---- the bundles before a position
 
--- the entries of the bundles before this place
+-- the entries of the bundles before this position
 pub record IsReadTo (bundles : List (List ℕ)) (size place : ℕ) (base : List (List ℕ)) : Type 0 where
   pub short : AreShortEntries base
   pub part : place * 256 ≤ size → length base ≡ place * 256
@@ -149,7 +149,7 @@ read_whole bundles size place base count all is =
       record { short = is.short; count = count ∙ ap bundle_count (sym len); each = λ i less. is.each i (omega (arith, less, all)) },
     )
 
--- ---- what is refused
+-- ---- faults
 
 -- bytes that leave a bundle aren't one
 pub bundle_refused : (A : Type 0) (bundles : List (List ℕ)) (size place : ℕ) (bytes : List ℕ) (fault : BundleFault) → place < length bundles → slice_index_or bundles place [] ≡ bytes → ReadsBundle {A = A} bytes (bundle_width size place) (Err fault)
@@ -183,17 +183,17 @@ pub true_of_not : (b : Bool) → false ≡ not b → b ≡ true
 true_of_not true is = refl
 true_of_not false is = absurd (cc)
 
--- a fault that is handed on
+-- a fault that a caller returns
 pub err_passes : {T F : Type 0} (P : F → Type 0) (given : F) (r : Result T F) → IsErrAnd r (λ fault. fault ≡ given) → P given → IfErr r P
 err_passes P given (Ok x) same is = tt
 err_passes P given (Err fault) same is = subst P (sym same) is
 
--- what is wrong however the log is opened isn't want of memory
+-- a fault that applies however the log is opened isn't `OutOfMemory`
 pub not_memory : (origin : List ℕ) (signers : List SigningKey) (readers : ℕ) (fault : OperatorFault) → ((lanes capacity limit : ℕ) → OpenRefusesOperator origin signers lanes capacity limit readers fault) → fault ≡ operator.OutOfMemory → ⊥
 not_memory origin signers readers fault wrong same =
     (let is = subst (OpenRefusesOperator origin signers 0 0 0 readers) same (wrong 0 0 0) in omega (arith, is.1.0))
 
--- a sequencer that isn't opened could not be
+-- a sequencer that isn't opened couldn't be opened
 may_not : (lanes capacity limit : ℕ) (why : OpenFault) → OpenRefuses lanes capacity limit why → (why ≡ sequencer.OutOfMemory → ⊥) → MayOpen lanes capacity limit → ⊥
 may_not lanes capacity limit sequencer.LaneCount (inl less) some may = omega (arith, less, may.0.0)
 may_not lanes capacity limit sequencer.LaneCount (inr more) some may = omega (arith, more, may.0.1)

@@ -1,4 +1,5 @@
--- An operator as its contracts see it, and what is true of each one that was opened, whatever calls moved it since.
+-- The operator as its contracts see it, and what is true of every operator that was opened, whatever calls it has
+-- had.
 use Rattle.std.specs.Prelude.{◌≡◌, ℕ, ◌+◌, ◌≤◌, List, [], length, Option, Some, None}
 use Rattle.std.specs.List.{All}
 use Rattle.tl_note.specs.Key.{SigningKey}
@@ -15,8 +16,8 @@ use Rattle.tl_publisher.specs.Signed.{AreSigners, AreSignedBy, IsSignedNote, Quo
 use Rattle.tl_publisher.specs.Stages.{IsNextOf}
 use Rattle.tl_publisher.specs.Encoded.{AreEncoded}
 
--- its origin, the keys that sign, who must cosign, its log, what is proposed to the witnesses, and the history of its
--- publications
+-- the log's origin, the signers' keys, who must cosign, the log, what is proposed to the witnesses, and the history
+-- of publications
 pub record Operated (A : Type 0) : Type 0 where
   pub origin : List ℕ
   pub signers : List SigningKey
@@ -25,8 +26,8 @@ pub record Operated (A : Type 0) : Type 0 where
   pub proposal : Option Prefix
   pub past : Past
 
--- what was opened: a log of these entries with its submitters, under this origin and these keys, of which nothing is
--- published
+-- the operator was just opened: its log has these entries and submitters, it has this origin and these signers, and
+-- nothing is published
 pub record IsNew {A : Type 0} (words : List ℕ) (keys : List SigningKey) (base : List (List ℕ)) (lanes capacity limit : ℕ) (o : Operated A) (submitters : List (Sender A)) : Type 0 where
   pub origin : o.origin ≡ words
   pub signers : o.signers ≡ keys
@@ -35,17 +36,18 @@ pub record IsNew {A : Type 0} (words : List ℕ) (keys : List SigningKey) (base 
   pub unproposed : o.proposal ≡ None
   pub unpublished : o.past.log ≡ []
 
--- the proposal is of a beginning of the log that has all that the log began with, goes on from the last publication,
--- and has a note of its own checkpoint with one line by each signer, in order
+-- The proposal is of a beginning of the log that has all that the log began with. It continues the last publication.
+-- Its note is that of its own checkpoint, with one line by each signer, in order.
 pub record IsProposal {A : Type 0} (o : Operated A) (p : Prefix) : Type 0 where
   pub beginning : Begins p.entries (entries_of o.log)
   pub based : Begins o.log.base p.entries
   pub next : IsNextOf (last_of o.past.log) p
   pub signed : IsSignedNote o.signers no_quorum (text_of_log o.origin p.entries) p.note
 
--- its checkpoints can be signed and cosigned, and each publication is of a beginning of the log that has all that the
--- log began with, goes on from the one before, and has a note of its own checkpoint with one line by each signer, in
--- order, and then lines of as many witnesses as must cosign; there is a proposal only where witnesses must
+-- The operator can sign its checkpoints and have them cosigned. Each publication is of a beginning of the log that
+-- has all that the log began with, and continues the publication before. Its note is that of its own checkpoint, with
+-- one line by each signer, in order, then lines of as many witnesses as must cosign. There is a proposal only if
+-- witnesses must cosign.
 pub record IsOperating {A : Type 0} (o : Operated A) : Type 0 where
   pub origin : IsOneLine o.origin
   pub signers : AreSigners o.signers
@@ -58,27 +60,28 @@ pub record IsOperating {A : Type 0} (o : Operated A) : Type 0 where
   pub growing : IsGrowing o.past.log
   pub signed : AreSignedBy o.origin o.signers o.quorum o.past.log
 
--- origin, signers and who must cosign stay
+-- origin, signers and who must cosign stay the same
 pub record IsOfSame {A : Type 0} (a b : Operated A) : Type 0 where
   pub origin : b.origin ≡ a.origin
   pub signers : b.signers ≡ a.signers
   pub quorum : b.quorum ≡ a.quorum
 
--- all but the log's entries stays: its keys, what is proposed and what is published, and the lanes' submitters
+-- only the log's entries change: the keys, the proposal, the publications and the submitters of the lanes stay the
+-- same
 pub record LeavesAllElse {A : Type 0} (a b : Operated A) : Type 0 where
   pub keys : IsOfSame a b
   pub proposal : b.proposal ≡ a.proposal
   pub past : b.past ≡ a.past
   pub rings : rings_of b.log ≡ rings_of a.log
 
--- each reader has seen this history, and there are so many
+-- there are `count` readers, and each has seen this history
 pub record HaveSeen (past : Past) (count : ℕ) (readers : List Past) : Type 0 where
   pub all : length readers ≡ count
   pub each : All (λ seen. seen ≡ past) readers
 
--- A log that was closed as complete: it holds each lane's entries once, in sent order, after its base, and all that was
--- published is the specifications' encoding of beginnings of it that have its base, each longer than the one before,
--- under notes signed by this operator's keys.
+-- The log was closed as complete. After its base it has each lane's entries once, in the order in which they were
+-- sent. Everything published is the standards' encoding of beginnings of the log that have its base, each longer than
+-- the one before, under notes signed by this operator's keys.
 pub record IsClosed {A : Type 0} (o : Operated A) (whole : Log A) (kept : Past) : Type 0 where
   pub log : whole ≡ o.log
   pub past : kept ≡ o.past

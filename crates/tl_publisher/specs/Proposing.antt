@@ -1,5 +1,5 @@
--- A checkpoint that is shown only once enough witnesses have cosigned it: who must, what is proposed to them, and what
--- their lines make of it (C2SP tlog-cosignature, tlog-witness).
+-- A checkpoint that is published only once enough witnesses have cosigned it: who must cosign, what is proposed to
+-- them, and the publication with their lines (C2SP tlog-cosignature, tlog-witness).
 use Rattle.std.specs.Prelude.{◌≡◌, ℕ, ◌+◌, ◌≤◌, ◌<◌, List, [], ◌∷◌, ◌++◌, length, Result, Ok, Err, Some, None, slice_get}
 use Rattle.std.specs.List.{AllZip}
 use Rattle.tl_note.specs.Note.{Signature, Note}
@@ -27,20 +27,21 @@ use Rattle.tl_publisher.specs.Publishing.{EndsWith, IsFree, IsSame}
 abbrev pub IsEarly : {A : Type 0} → Operated A → Type 0
 IsEarly o = (o.past.log ≡ []) × IsFree o
 
--- 1 to all of the witnesses must, and a note has room for the lines of signers and witnesses
+-- at least one and at most all of the witnesses must cosign, and a note has room for the lines of signers and
+-- witnesses
 pub record MayNeed {A : Type 0} (o : Operated A) (q : Quorum) : Type 0 where
   pub some : 1 ≤ q.need
   pub within : q.need ≤ length q.witnesses
   pub room : length o.signers + length q.witnesses ≤ 100
 
--- the first reason that applies
+-- why the witnesses aren't required: the first reason that applies
 abbrev pub RequireRefuses : {A : Type 0} → Operated A → Quorum → RequireFault → Type 0
 RequireRefuses o q require.Late = IsEarly o → ⊥
 RequireRefuses o q require.Need = IsEarly o × (MayNeed o q → ⊥)
 RequireRefuses o q require.Twice = IsEarly o × MayNeed o q × (AreApart q.witnesses → ⊥)
 RequireRefuses o q require.OutOfMemory = ⊥
 
--- from now on so many of these witnesses must cosign; nothing else changes
+-- from now on `q.need` of these witnesses must cosign; nothing else changes
 pub record IsRequired {A : Type 0} (a b : Operated A) (q : Quorum) : Type 0 where
   pub early : IsEarly a
   pub may : MayNeed a q
@@ -52,8 +53,8 @@ pub record IsRequired {A : Type 0} (a b : Operated A) (q : Quorum) : Type 0 wher
 
 -- ---- what is proposed
 
--- the whole log, which isn't what was published last, is proposed under a signed note of its checkpoint, in place of
--- what was proposed before, and nothing is shown
+-- The whole log, which is longer than the last publication, is proposed under a signed note of its checkpoint, in
+-- place of an earlier proposal. Nothing is published.
 pub record IsProposed {A : Type 0} (a b : Operated A) (size : ℕ) (note : List ℕ) : Type 0 where
   pub needed : IsFree a → ⊥
   pub fresh : EndsWith a.past.log (entries_of a.log) → ⊥
@@ -63,8 +64,8 @@ pub record IsProposed {A : Type 0} (a b : Operated A) (size : ℕ) (note : List 
   pub log : b.log ≡ a.log
   pub past : b.past ≡ a.past
 
--- `Quorum` exactly where no witness must cosign, and else `NothingNew` exactly where the last publication is of the
--- whole log; where it is refused, what was proposed before stays
+-- `Quorum` if no witness must cosign; else `NothingNew` if the last publication has the whole log; else a signer
+-- failed, or memory ran out
 abbrev pub ProposeRefuses : {A : Type 0} → Operated A → PublishFault → Type 0
 ProposeRefuses a publish.Quorum = IsFree a
 ProposeRefuses a publish.NothingNew = (IsFree a → ⊥) × EndsWith a.past.log (entries_of a.log)
@@ -74,8 +75,8 @@ ProposeRefuses a publish.OutOfMemory = (IsFree a → ⊥) × (EndsWith a.past.lo
 
 -- ---- what is attached
 
--- the note of what was proposed with lines of enough witnesses: its own lines, one by each signer, and then, in the
--- order of the lines that are attached, the first cosignature by each witness
+-- the note of the proposal with the lines of enough witnesses: one line by each signer, then, in the order in which
+-- they are attached, the first cosignature by each witness
 pub record IsCosigned {A : Type 0} (a : Operated A) (q : Prefix) (lines : List Signature) (note : List ℕ) : Type 0 where
   pub own : List Signature
   pub found : List Cosigned
@@ -87,7 +88,7 @@ pub record IsCosigned {A : Type 0} (a : Operated A) (q : Prefix) (lines : List S
   pub each : AllZip (λ c line. slice_get lines c.line ≡ Some line) found kept
   pub noted : Note note (text_of_log a.origin q.entries) (own ++ kept)
 
--- what was proposed is published in one step, under this note
+-- the proposal is published in one step, under this note
 pub record IsAttached {A : Type 0} (a b : Operated A) (q : Prefix) (lines : List Signature) (p : Past) : Type 0 where
   pub note : List ℕ
   pub cosigned : IsCosigned a q lines note
@@ -97,12 +98,12 @@ pub record IsAttached {A : Type 0} (a b : Operated A) (q : Prefix) (lines : List
   pub proposal : b.proposal ≡ None
   pub told : p ≡ b.past
 
--- so many witnesses have cosigned what was proposed, and that isn't enough
+-- only k witnesses have cosigned the proposal, and more must
 abbrev pub AreTooFew : {A : Type 0} → Operated A → Prefix → List Signature → ℕ → Type 0
 AreTooFew a q lines k =
     (found : List Cosigned) × AreFirst (text_of_log a.origin q.entries) a.quorum.witnesses lines found × (k ≡ length found) × (k < a.quorum.need)
 
--- what attaching a text answers: the first reason that applies; where it is refused, what was proposed stays
+-- What attaching lines answers: the first reason that applies. After an error the proposal stays.
 abbrev pub Attaches : {A : Type 0} → List ℕ → Operated A → Operated A → Result Past AttachFault → Type 0
 Attaches text a b (Ok p) =
     (q : Prefix) × (lines : List Signature) × (a.proposal ≡ Some q) × AreLines text lines × IsAttached a b q lines p

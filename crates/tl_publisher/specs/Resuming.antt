@@ -1,4 +1,4 @@
--- A log that goes on from a checkpoint that was published, with the bundles of its entries (C2SP tlog-checkpoint,
+-- A log that is resumed from a published checkpoint and the bundles of its entries (C2SP tlog-checkpoint,
 -- tlog-tiles).
 use Rattle.std.specs.Prelude.{◌≡◌, ◌≢◌, ℕ, ◌*◌, ◌<◌, ◌≤◌, ◌^◌, List, [], length, take, drop, slice_index_or, Err}
 use Rattle.std.specs.Global.{Global}
@@ -22,8 +22,8 @@ use Rattle.tl_publisher.specs.Publishing.{OpenRefusesOperator}
 abbrev pub bundle_count : ℕ → ℕ
 bundle_count size = length (pieces resource.Entries size)
 
--- what is to go on: the note of its checkpoint with the keys that open it, its bundles, and the origin and limit of the
--- log
+-- what a log is resumed from: the note of its checkpoint, the keys that open it, its bundles, and the log's origin
+-- and limit
 pub record Resumption : Type 0 where
   pub note : List ℕ
   pub keys : List Key
@@ -35,29 +35,29 @@ abbrev pub resumption : List ℕ → List Key → List (List ℕ) → List ℕ �
 resumption note keys bundles origin limit =
     record { note = note; keys = keys; bundles = bundles; origin = origin; limit = limit }
 
--- the bundles are those of the entries
+-- these are the bundles of these entries
 pub record AreBundlesOf (entries bundles : List (List ℕ)) : Type 0 where
   pub short : AreShortEntries entries
   pub count : length bundles ≡ bundle_count (length entries)
   pub each : (place : ℕ) → place < length bundles → slice_index_or bundles place [] ≡ bundle_text (take 256 (drop (place * 256) entries))
 
--- there may be so many entries, in as many bundles as they need
+-- the log may have this many entries, and has the number of bundles that they need
 pub record IsSized (r : Resumption) (size : ℕ) : Type 0 where
   pub within : size ≤ r.limit
   pub small : size < 2 ^ 32
   pub bundled : length r.bundles ≡ bundle_count size
 
--- the bundle at this place has as many entries as it has to have
+-- the bundle at this position is one of the width that it must have
 abbrev pub IsBundleAt : List (List ℕ) → ℕ → ℕ → Type 0
 IsBundleAt bundles size place = IsBundle (slice_index_or bundles place []) (bundle_width size place)
 
--- the first that hasn't is at this place
+-- the first bundle that is not one is at this position
 pub record IsFirstBad (bundles : List (List ℕ)) (size place : ℕ) : Type 0 where
   pub within : place < length bundles
   pub bad : IsBundleAt bundles size place → ⊥
   pub before : (i : ℕ) → i < place → IsBundleAt bundles size i
 
--- the checkpoint opens, and is of this origin
+-- the note opens as this checkpoint, which is of this origin
 pub record IsOfOrigin (r : Resumption) (c : Head) : Type 0 where
   pub signed : IsSignedCheckpoint r.note r.keys c
   pub origin : c.origin ≡ r.origin
@@ -69,14 +69,14 @@ pub record AreStated (r : Resumption) (c : Head) (entries : List (List ℕ)) : T
   pub length : length entries ≡ c.size
   pub bundled : AreBundlesOf entries r.bundles
 
--- the log begins with these entries: those of a checkpoint that opened, which has their number and their root
+-- the log begins with these entries: they have the size and root of a checkpoint that opened
 pub record IsBase (r : Resumption) (base : List (List ℕ)) : Type 0 where
   pub checkpoint : Head
   pub stated : AreStated r checkpoint base
   pub root : tree_hash sha256 base ≡ checkpoint.root
 
--- the first reason that applies. A place or memory may be refused only where no reason does, memory also before, of a
--- note
+-- The first reason that applies. `Place` and `OutOfMemory` come if no other reason applies; `OutOfMemory` also
+-- before, but only if the note is a note.
 abbrev pub ResumeRefuses : Resumption → List SigningKey → ℕ → ℕ → ℕ → ResumeFault → Type 0
 ResumeRefuses r signers lanes capacity readers resume.Note =
     (fault : OpenCheckpointFault) × (fault ≢ checkpoint.OutOfMemory) × OpensCheckpoint {A = Global} r.note r.keys (Err fault)

@@ -1,4 +1,4 @@
-//! How the lines of witnesses make a proposal a publication.
+//! Publishing a proposal once enough witnesses have cosigned it.
 
 ghost use Rattle.std.specs.Prelude.{◌≡◌, ◌<◌, IfOk, Some, length, string_bytes};
 ghost use Rattle.std.specs.List.{All};
@@ -16,7 +16,7 @@ use std::sync::Wait;
 use tl_checkpoint::{Cosigned, cosignatures_by};
 use tl_note::{NoteFault, SigView, parse_signatures};
 
-// The note, and the lines that were found behind its own.
+// Returns the note with the lines found added after its own.
 fn with_lines(
     note: &String,
     lines: &[SigView<'_>],
@@ -33,7 +33,7 @@ fn with_lines(
     Ok(whole)
 }
 
-// The lines of a text.
+// Parses the signature lines of a text.
 fn lines_of(alloc: Global, text: &str) -> Result<Vec<SigView<'_>>, AttachFault>
     ensures { CutsLines text.now result }
 {
@@ -45,7 +45,7 @@ fn lines_of(alloc: Global, text: &str) -> Result<Vec<SigView<'_>>, AttachFault>
 }
 
 impl<R: Wait + Drop> Operator<R> {
-    // The note of what is proposed with the lines of enough witnesses behind its own.
+    // Returns the note of the proposal with the cosignatures of enough witnesses after its own lines.
     fn cosigned(&self, note: &String, lines: &str) -> Result<Vec<u8>, AttachFault>
         requires { IsOperating (⟦<Operator<R> as RunningLog>⟧.state self.now) }
         ensures { (q : Prefix) → (⟦<Operator<R> as RunningLog>⟧.state self.now).proposal ≡ Some q
@@ -62,7 +62,7 @@ impl<R: Wait + Drop> Operator<R> {
         Ok(whole.into_bytes())
     }
 
-    // Publishes what was proposed, where these are the lines of enough witnesses.
+    // Publishes the proposal if these lines have the cosignatures of enough witnesses.
     fn attach_lines(&mut self, lines: &str) -> Result<Published, AttachFault>
         requires { IsOperating (⟦<Operator<R> as RunningLog>⟧.state self.old) }
         ensures keys { IsOfSame (⟦<Operator<R> as RunningLog>⟧.state self.old)
@@ -79,11 +79,11 @@ impl<R: Wait + Drop> Operator<R> {
         Ok(published)
     }
 
-    /// Publishes what was proposed in one step, once enough witnesses have cosigned it: its checkpoint has the signers'
-    /// lines and then the first valid line of each witness, in the order of these lines, which are what witnesses
-    /// answer (C2SP tlog-witness). All other lines are left out. Entries taken since then wait. `TooFew`: so many
-    /// witnesses have a valid line. A call that is refused keeps the proposal. It waits until no reader looks at what
-    /// is replaced.
+    /// Publishes the proposal in one step if enough witnesses have cosigned it. `lines` are the signature lines that
+    /// the witnesses returned (C2SP tlog-witness). The checkpoint gets the signers' lines, then the first valid line
+    /// of each witness in the order of `lines`; other lines are left out. Entries taken after `propose` wait for the
+    /// next publication. `TooFew(k)` means that only `k` witnesses have a valid line. An error keeps the proposal.
+    /// Waits until no reader uses the version that is replaced.
     pub fn attach(&mut self, lines: &str) -> Result<Published, AttachFault>
         requires { IsOperating (⟦<Operator<R> as RunningLog>⟧.state self.old) }
         ensures operating { IsOperating (⟦<Operator<R> as RunningLog>⟧.state self.new) }

@@ -1,4 +1,4 @@
-//! What a copy of the board holds, and how it changes.
+//! One copy of the board, and how it changes.
 ghost use Rattle.std.specs.Prelude.{◌≡◌, ℕ, [], None, Some, take, IfOk, option_map, if◌then◌else◌, ◌*◌};
 ghost use Rattle.tl_tile.specs.declared.resource.Resource.TheVariants as resource;
 ghost use Rattle.tl_log.specs.Resources as resources;
@@ -16,8 +16,8 @@ use std::marker::Model;
 use tl_hash::Head;
 use tl_tile::{Resource, Tile};
 
-/// One of the two versions of a board. The first `count` texts and the first `turns` sizes are shown, with the face;
-/// what a change has laid beside them isn't.
+/// One of the two versions of a board. It shows the first `count` texts, the first `turns` sizes and `face`. Texts, a
+/// size and `next` that a change has staged after them aren't shown yet.
 #[derive(Drop)]
 pub struct BoardCopy<A: Allocator> {
     items: Vec<Text<A>, A>,
@@ -48,7 +48,7 @@ impl<A: Allocator> Model for BoardCopy<A> {
     ghost invariant = { λ s. (s.count ≤ length s.items.items) × (s.turns ≤ length s.sizes.items) };
 }
 
-/// What a publication adds.
+/// What a publication adds: the full bundles and tiles, and the face.
 #[derive(Drop)]
 pub struct Change<A: Allocator> {
     pub(crate) added: Vec<Text<A>, A>,
@@ -63,7 +63,7 @@ impl<A: Allocator> Model for Change<A> {
     ghost view = { λ c. record { added = c.added.items; face = c.face } };
 }
 
-/// A change to lay down, or none: what was laid down is shown, with this history.
+/// One step of a change. With a change it stages that change; without one it shows what was staged, as this history.
 #[derive(Drop)]
 pub struct Step<A: Allocator> {
     change: Option<Change<A>>,
@@ -86,7 +86,7 @@ impl<A: Allocator> Step<A> {
     }
 }
 
-// The bytes of a tile that was published.
+// Returns the bytes of a tile if some publication needed it.
 fn found_tile<'a, A: Allocator>(
     items: &'a [Text<A>],
     sizes: &[u64],
@@ -105,7 +105,7 @@ fn found_tile<'a, A: Allocator>(
     Some(front(bytes, 32 * tile.width as usize))
 }
 
-// The bytes of a bundle that was published.
+// Returns the bytes of a bundle if some publication needed it.
 fn found_bundle<'a, A: Allocator>(
     items: &'a [Text<A>],
     sizes: &[u64],
@@ -127,7 +127,7 @@ fn found_bundle<'a, A: Allocator>(
 }
 
 impl<A: Allocator> BoardCopy<A> {
-    /// The bytes under a resource.
+    /// Returns the bytes that are shown for a resource.
     pub(crate) fn found(&self, resource: Resource) -> Option<&[u8]>
         requires { IsRising (stages.visible self.now).sizes }
         ensures { option_map (λ t. t.now) result ≡ boards.found (stages.visible self.now) resource }
@@ -145,7 +145,7 @@ impl<A: Allocator> BoardCopy<A> {
         }
     }
 
-    /// Size and root of what is shown.
+    /// Returns the size and root that are shown, or `None` if nothing was published.
     pub(crate) fn head(&self) -> Option<Head>
         ensures { option_map (λ h. (h.size, h.root)) result ≡ boards.face_head self.now.face }
     {
@@ -159,7 +159,7 @@ impl<A: Allocator> BoardCopy<A> {
         })
     }
 
-    /// The history that it shows.
+    /// Returns the history that this copy shows.
     pub(crate) fn past(&self) -> &Past
         ensures { result.now ≡ self.now.past }
     {

@@ -1,4 +1,4 @@
-//! The one who shows publications on the board.
+//! The writer of the board.
 ghost use Rattle.std.specs.Prelude.{◌≡◌, ℕ, Option, Some, None, List, [], ◌∷◌, ◌++◌, take, drop, fold, length, ◌<◌, ◌≤◌, ◌^◌, IfErr, IfOk, IsSome, OnOk, OnErr, MatchResult, option_map};
 ghost use Rattle.left_right.specs.Sides.{view};
 ghost use Rattle.sha2.specs.Sha256.{sha256};
@@ -20,8 +20,8 @@ use tl_hash::Head;
 use tl_sequencer::Sequencer;
 use tl_tile::Resource;
 
-/// The writer of the board and the history of its publications. It keeps the handle `R`, since its drop waits for the
-/// readers. Contracts see the board that it shows.
+/// Writes the board and records the history of its publications. It keeps the runtime `R` because dropping it waits
+/// for the readers. Contracts see the board that it shows.
 pub(crate) struct BoardWriter<R: Wait + Drop> {
     writer: CopyWriter,
     history: HistoryWriter,
@@ -45,7 +45,7 @@ impl<R: Wait + Drop> Model for BoardWriter<R> {
         × stages.Rests sha256 p.writer.desk.shown.value (drop p.writer.behind p.writer.log.items) };
 }
 
-// Adds a publication to the book. No one else adds to it, so the loop is never reached.
+// Adds a publication to the history. No one else adds to it, so the loop is never reached.
 fn added<N: Next, R: Wait>(rt: &R, history: HistoryWriter) -> HistoryWriter
     requires { length history.past.log < 2 ^ 62 }
     ensures book { result.past.book ≡ history.past.book }
@@ -76,7 +76,7 @@ fn logged<R: Wait>(rt: &R, writer: CopyWriter, step: Step<Global>) -> CopyWriter
     unreachable!()
 }
 
-// Shows a copy that has what is pending, or what was shown where memory is short.
+// Shows the copy that has the pending steps. If allocation fails, what was shown stays.
 fn published<R: Wait>(rt: &R, writer: CopyWriter) -> (CopyWriter, Result<(), AllocError>)
     requires shown { stages.IsShown sha256 (stages.visible
         (fold stages.moved writer.desk.shown.value (drop writer.behind writer.log.items))) }
@@ -92,7 +92,7 @@ fn published<R: Wait>(rt: &R, writer: CopyWriter) -> (CopyWriter, Result<(), All
     writer.publish_as::<Show, R>(rt)
 }
 
-// Shows what was laid down and logged. It takes no memory, so the first round ends the loop.
+// Shows what was staged and logged. It allocates nothing, so the first round ends the loop.
 fn shown<R: Wait>(rt: &R, writer: CopyWriter) -> CopyWriter
     requires shown { stages.IsShown sha256 (stages.visible
         (fold stages.moved writer.desk.shown.value (drop writer.behind writer.log.items))) }
@@ -114,7 +114,7 @@ fn shown<R: Wait>(rt: &R, writer: CopyWriter) -> CopyWriter
     unreachable!()
 }
 
-// Brings what is pending into one copy. What is shown stays.
+// Applies the pending steps to one copy. What is shown stays.
 fn tried<R: Wait>(rt: &R, writer: CopyWriter) -> (CopyWriter, Result<(), AllocError>)
     requires { stages.Rests sha256 writer.desk.shown.value (drop writer.behind writer.log.items) }
     ensures rests { stages.Rests sha256 result.0.desk.shown.value
@@ -129,7 +129,7 @@ fn tried<R: Wait>(rt: &R, writer: CopyWriter) -> (CopyWriter, Result<(), AllocEr
     published(rt, writer)
 }
 
-// Brings what is pending into both copies. What is shown stays.
+// Applies the pending steps to both copies. What is shown stays.
 fn settled<R: Wait>(rt: &R, writer: CopyWriter) -> (CopyWriter, Result<(), AllocError>)
     requires { stages.Rests sha256 writer.desk.shown.value (drop writer.behind writer.log.items) }
     ensures rests { stages.Rests sha256 result.0.desk.shown.value
@@ -148,7 +148,7 @@ fn settled<R: Wait>(rt: &R, writer: CopyWriter) -> (CopyWriter, Result<(), Alloc
     }
 }
 
-// Lays a change down in both copies. What is shown stays.
+// Stages a change in both copies. What is shown stays.
 fn lay<R: Wait>(
     rt: &R,
     writer: CopyWriter,
@@ -174,7 +174,7 @@ fn lay<R: Wait>(
 }
 
 impl<R: Wait + Drop> BoardWriter<R> {
-    // Shows a change, at a publication that the caller names.
+    // Shows a change as the publication `N::next`, which the caller chooses.
     fn show_change<N: Next, E: Allocator>(
         self,
         change: Change<Global>,
@@ -215,7 +215,7 @@ impl<R: Wait + Drop> BoardWriter<R> {
         (board, Ok(past))
     }
 
-    // Shows a change, at the beginning of the log that has so many entries.
+    // Shows a change as the publication of the first `size` entries of the log.
     fn show_log<E: Allocator>(
         self,
         ask: (Change<Global>, &Sequencer<E, Global>, u64),
@@ -233,7 +233,8 @@ impl<R: Wait + Drop> BoardWriter<R> {
         self.show_change::<Brand, E>(change, log, size)
     }
 
-    /// Publishes the first `size` entries of the log in one step, by their change.
+    /// Publishes the first `size` entries of the log in one step; `change` is what that publication adds. On error
+    /// nothing changes.
     pub(crate) fn show<E: Allocator>(
         &mut self,
         change: Change<Global>,
@@ -252,7 +253,7 @@ impl<R: Wait + Drop> BoardWriter<R> {
         replace_with(self, (change, log, size), BoardWriter::<R>::show_log::<E>)
     }
 
-    /// A reader of the board, which has seen what was published so far.
+    /// Returns a reader of the board that has seen all publications so far.
     pub(crate) fn reader(&mut self) -> Result<BoardReader<Global>, AllocError>
         ensures same { self.new ≡ self.old }
         ensures reader { IfOk result (λ w. w ≡ self.old.past) }
@@ -262,7 +263,7 @@ impl<R: Wait + Drop> BoardWriter<R> {
         Ok(BoardReader::new(reader, self.history.past().again()))
     }
 
-    /// The bytes under a resource.
+    /// Returns a copy of the bytes that are shown for a resource.
     pub(crate) fn get<B: Allocator>(
         &self,
         alloc: B,
@@ -276,7 +277,7 @@ impl<R: Wait + Drop> BoardWriter<R> {
         bytes_of(self.writer.published(), alloc, resource)
     }
 
-    /// Size and root of the last publication.
+    /// Returns the size and root of the last publication.
     pub(crate) fn head(&self) -> Option<Head>
         ensures shown { stages.IsShown sha256 self.now }
         ensures head { option_map (λ h. (h.size, h.root)) result ≡ boards.face_head self.now.face }
@@ -284,7 +285,7 @@ impl<R: Wait + Drop> BoardWriter<R> {
         self.writer.published().head()
     }
 
-    /// A writer of an empty board, with room for so many readers. Nobody reads yet, so it doesn't wait.
+    /// Returns the writer of an empty board with room for `readers` readers. It doesn't wait, since nobody reads yet.
     pub(crate) fn open(rt: R, alloc: Global, readers: usize) -> Result<BoardWriter<R>, AllocError>
         requires { (0 < readers) × (readers < 2 ^ 32) }
         ensures { IfOk result (λ p. (p.past.log ≡ []) × (p.face ≡ None)) }

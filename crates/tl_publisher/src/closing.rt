@@ -1,4 +1,4 @@
-//! How an operator is closed, and the board that stays.
+//! Closing an operator, and the board that remains.
 
 ghost use Rattle.std.specs.Prelude.{◌≡◌, IfErr, IfOk, IsSome, ℕ, option_map, vec_items};
 ghost use Rattle.sha2.specs.Sha256.{sha256};
@@ -17,18 +17,19 @@ use tl_hash::Head;
 use tl_sequencer::Complete;
 use tl_tile::Resource;
 
-/// An operator whose log was not closed.
+/// The error of `close`: some lane has not ended.
 #[derive(Drop)]
 pub struct OperatorBack<R: Wait + Drop> {
-    /// The operator as it was.
+    /// The operator, unchanged.
     pub operator: Operator<R>,
-    /// The smallest lane whose end was not taken in.
+    /// The smallest lane whose end was not taken.
     pub lane: u32,
 }
 
 impl<R: Wait + Drop> Operator<R> {
-    /// Closes the log. Where the end of each lane was taken in it is complete: it has all that was submitted, and the
-    /// board keeps what was published last; a proposal is dropped. Else the operator comes back as it was.
+    /// Closes the log and returns it with its board, which keeps the last publication. The log is complete: it has
+    /// every entry that was submitted. A proposal is dropped. If the end of some lane was not taken, `close` returns
+    /// the operator unchanged, with the smallest such lane.
     pub fn close(self) -> Result<(Complete<Global, Global>, Board<R>), OperatorBack<R>>
         requires { IsOperating (⟦<Operator<R> as RunningLog>⟧.state self) }
         ensures closed { IfOk result
@@ -64,7 +65,7 @@ impl<R: Wait + Drop> Operator<R> {
     }
 }
 
-/// The board of a log that was closed, which readers go on with. Contracts see the history that it shows.
+/// The board of a log that was closed. Readers can still use it. Contracts see the history that it shows.
 #[derive(Drop)]
 pub struct Board<R: Wait + Drop> {
     writer: BoardWriter<R>,
@@ -79,9 +80,9 @@ impl<R: Wait + Drop> Model for Board<R> {
 }
 
 impl<R: Wait + Drop> Board<R> {
-    /// A copy of the bytes under a resource (C2SP tlog-tiles): the signed checkpoint of the last publication, or a tile
-    /// or bundle, full or partial, that some publication needed. None for any other resource. It fails only where a
-    /// growth was refused, which none is for what isn't there.
+    /// Returns a copy of the bytes of a resource (C2SP tlog-tiles): the signed checkpoint of the last publication, or
+    /// a tile or bundle, full or partial, that some publication needed. It is `None` for any other resource. It fails
+    /// only if allocation fails, which can happen only if there is something to copy.
     pub fn get<B: Allocator>(
         &mut self,
         alloc: B,
@@ -98,7 +99,7 @@ impl<R: Wait + Drop> Board<R> {
         Ok(found)
     }
 
-    /// Size and root of the last publication, None where nothing was published. It never fails.
+    /// Returns the size and root of the last publication, or `None` if nothing was published. It never fails.
     pub fn head(&mut self) -> Result<Option<Head>, GetFault>
         ensures same { self.new ≡ self.old }
         ensures answer { IfOk result (λ r. option_map

@@ -1,4 +1,4 @@
-//! What the next publication will show.
+//! What the next publication will add.
 ghost use Rattle.std.specs.Prelude.{◌≡◌, ◌+◌, ◌-◌, ◌%◌, ◌<◌, ◌≤◌, ◌^◌, ℕ, List, [], ◌∷◌, ◌++◌, vec_len, vec_capacity, length, take, drop, map, vec_items, slice_index_or, IfOk, OnOk, OnErr};
 ghost use Rattle.sha2.specs.Sha256.{sha256};
 ghost use Rattle.tl_hash.specs.Tree.{tree_hash};
@@ -50,7 +50,7 @@ impl<A: Allocator> Model for Growth<A> {
         record { edge = g.edge; bundle = g.bundle.items; waiting = g.waiting.items } };
 }
 
-// Puts an entry behind a bundle that has room for it.
+// Appends an entry to a bundle that has room for it.
 fn push_reserved_entry<A: Allocator>(bundle: &mut Vec<u8, A>, entry: &[u8])
     requires room { vec_len bundle.old + (2 + length entry.now) ≤ vec_capacity bundle.old }
     requires short { IsShortEntry entry.now }
@@ -64,7 +64,7 @@ fn push_reserved_entry<A: Allocator>(bundle: &mut Vec<u8, A>, entry: &[u8])
 }
 
 impl<A: Allocator + Copy> Growth<A> {
-    /// Of a log with no entries.
+    /// Returns the growth of an empty log.
     pub(crate) fn new(alloc: A) -> Growth<A>
         ensures { IsGrown sha256 0 [] result }
     {
@@ -75,7 +75,7 @@ impl<A: Allocator + Copy> Growth<A> {
         }
     }
 
-    /// Of a log with these entries.
+    /// Returns the growth of a log with these entries, none of which is published.
     pub(crate) fn of(alloc: A, entries: &[Vec<u8, A>]) -> Result<Growth<A>, AllocError>
         requires few { length entries.now < 2 ^ 32 }
         requires short { AreShortEntries (map vec_items entries.now) }
@@ -89,14 +89,14 @@ impl<A: Allocator + Copy> Growth<A> {
         Ok(growth)
     }
 
-    /// The number of entries.
+    /// Returns the number of entries.
     pub(crate) fn size(&self) -> u64
         ensures { result ≡ self.now.edge.size }
     {
         self.edge.size()
     }
 
-    /// Takes in one entry more. Where memory is refused nothing changes.
+    /// Appends one entry. If allocation fails nothing changes.
     pub(crate) fn append(&mut self, entry: &[u8]) -> Result<(), AllocError>
         requires room { self.old.edge.size < 2 ^ 32 - 1 }
         requires short { IsShortEntry entry.now }
@@ -117,8 +117,8 @@ impl<A: Allocator + Copy> Growth<A> {
         Ok(())
     }
 
-    /// Takes in four entries more, as so many calls of `append` do, where none of them fills a bundle, and hashes them
-    /// side by side. Where memory is refused nothing changes.
+    /// Appends four entries, none of which may fill a bundle, as four calls of `append` do, but hashes them side by
+    /// side. If allocation fails nothing changes.
     pub(crate) fn append_four(
         &mut self,
         first: &[u8],
@@ -146,7 +146,8 @@ impl<A: Allocator + Copy> Growth<A> {
         Ok(())
     }
 
-    // Takes in the first of some entries: four, or one where there are fewer or they fill a bundle. Gives how many.
+    // Appends the first four entries, or only the first if there are fewer or they would fill a bundle. Returns how
+    // many.
     fn append_some(&mut self, entries: &[Vec<u8, A>]) -> Result<usize, AllocError>
         requires some { 0 < length entries.now }
         requires small { self.old.edge.size + length entries.now < 2 ^ 32 }
@@ -168,7 +169,7 @@ impl<A: Allocator + Copy> Growth<A> {
         Ok(1)
     }
 
-    /// Size and tree hash of the entries.
+    /// Returns the size and tree hash of the entries.
     pub(crate) fn head(&self) -> Head
         ensures size { result.size ≡ self.now.edge.size }
         ensures root { (start : ℕ) (entries : List (List ℕ))
@@ -180,7 +181,7 @@ impl<A: Allocator + Copy> Growth<A> {
         }
     }
 
-    /// A growth that goes on from these entries, which has filled nothing yet.
+    /// Returns a growth of the same entries in which nothing waits to be published.
     pub(crate) fn fork(&self) -> Result<Growth<A>, AllocError>
         ensures grown { (start : ℕ) (entries : List (List ℕ)) → IsGrown
             sha256 start entries self.now → IfOk result (IsGrown sha256 (length entries) entries) }
@@ -194,7 +195,8 @@ impl<A: Allocator + Copy> Growth<A> {
         })
     }
 
-    /// Takes in what a growth that went on from here has taken in. Where memory is refused nothing changes.
+    /// Continues with `next`, which was forked from this growth and has grown since. If allocation fails nothing
+    /// changes.
     pub(crate) fn join(&mut self, next: Growth<A>) -> Result<(), AllocError>
         ensures grown { (start : ℕ) (entries more : List (List ℕ))
             → IsGrown sha256 start entries self.old → IsGrown sha256 (length entries)
@@ -213,7 +215,7 @@ impl<A: Allocator + Copy> Growth<A> {
         Ok(())
     }
 
-    /// What waits was published.
+    /// Forgets the bundles and tiles that waited, since they were published.
     pub(crate) fn settle(&mut self)
         ensures settled { (start : ℕ) (entries : List (List ℕ)) → IsGrown
             sha256 start entries self.old → IsGrown sha256 (length entries) entries self.new }
@@ -223,7 +225,7 @@ impl<A: Allocator + Copy> Growth<A> {
     }
 }
 
-// The bytes, to be shared.
+// Copies the bytes into a text that can be shared.
 fn shared<A: Allocator + Copy>(alloc: A, bytes: &Vec<u8, A>) -> Result<Text<A>, AllocError>
     ensures { IfOk result (λ text. text ≡ bytes.now.items) }
 {
@@ -231,7 +233,7 @@ fn shared<A: Allocator + Copy>(alloc: A, bytes: &Vec<u8, A>) -> Result<Text<A>, 
     Text::new(alloc, bytes)
 }
 
-// Puts the bytes of tiles behind the others, to be shared.
+// Appends the bytes of the tiles to `out`, as texts that can be shared.
 fn put_tiles<A: Allocator + Copy>(
     alloc: A,
     tiles: &Vec<(Tile, Vec<u8, A>), A>,
@@ -247,7 +249,7 @@ fn put_tiles<A: Allocator + Copy>(
 }
 
 impl<A: Allocator + Copy> Batch<A> {
-    // Puts its texts behind the others, to be shared.
+    // Appends the bundle and the tiles of this batch to `out`, as texts that can be shared.
     fn put(&self, alloc: A, out: &mut Vec<Text<A>, A>) -> Result<(), AllocError>
         ensures { OnOk result (out.new.items ≡ out.old.items ++ self.now) }
     {
@@ -257,7 +259,7 @@ impl<A: Allocator + Copy> Batch<A> {
     }
 }
 
-// The texts that wait, to be shared.
+// Returns the texts that wait to be published, in order.
 fn texts_in<A: Allocator + Copy>(
     alloc: A,
     waiting: &Vec<Batch<A>, A>,
@@ -271,7 +273,7 @@ fn texts_in<A: Allocator + Copy>(
     Ok(texts)
 }
 
-// The bytes of the partial tile of a level, none where there is none.
+// Returns the bytes of the partial tile of a level, or none if there is none.
 fn partial_bytes<A: Allocator + Copy>(
     alloc: A,
     edge: &Edge<Sha256Tree, A>,
@@ -287,7 +289,7 @@ fn partial_bytes<A: Allocator + Copy>(
     }
 }
 
-// The bytes of the partial tiles, by level.
+// Returns the bytes of the partial tile of each level.
 fn partial_tiles<A: Allocator + Copy>(
     alloc: A,
     edge: &Edge<Sha256Tree, A>,
@@ -304,7 +306,7 @@ fn partial_tiles<A: Allocator + Copy>(
 }
 
 impl<A: Allocator + Copy> Growth<A> {
-    /// What a publication of its entries adds, with this note.
+    /// Returns what a publication of these entries under this note adds to the board.
     pub(crate) fn change(&self, note: Vec<u8, A>) -> Result<Change<A>, AllocError>
         ensures { (start : ℕ) (entries : List (List ℕ))
             → IsGrown sha256 start entries self.now → IfOk result

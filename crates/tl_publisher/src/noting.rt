@@ -12,7 +12,7 @@ use tl_checkpoint::{Checkpoint, CheckpointFault, write};
 use tl_hash::Head;
 use tl_note::{NoteFault, Signer, sign_note};
 
-// Why there is no note: lawful signers of a lawful text refuse, or memory does.
+// Converts the faults that lawful signers of a lawful text can cause: a signer refused, or allocation failed.
 fn refusal(fault: NoteFault) -> PublishFault
     requires { IsSignFault fault }
     ensures { AsPublishFault fault result }
@@ -24,7 +24,7 @@ fn refusal(fault: NoteFault) -> PublishFault
     }
 }
 
-// The text of the checkpoint of this size and root (C2SP tlog-checkpoint, "Note text").
+// Returns the text of the checkpoint of this size and root (C2SP tlog-checkpoint, "Note text").
 pub(crate) fn text_of(alloc: Global, origin: &str, head: Head) -> Result<String, AllocError>
     requires origin { IsOneLine origin.now }
     requires size { IsSize head.size }
@@ -45,7 +45,7 @@ pub(crate) fn text_of(alloc: Global, origin: &str, head: Head) -> Result<String,
     }
 }
 
-// The note of the checkpoint of this size and root, signed by each signer in order (C2SP signed-note).
+// Returns the note of the checkpoint of this size and root, signed by each signer in order (C2SP signed-note).
 pub(crate) fn note_of(
     alloc: Global,
     origin: &str,

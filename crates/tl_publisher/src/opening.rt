@@ -1,4 +1,4 @@
-//! How an operator is opened.
+//! Opening an operator.
 
 ghost use Rattle.std.specs.Prelude.{◌≡◌, ◌≤◌, ◌<◌, ◌^◌, ◌↔◌, ℕ, [], IfErr, IfOk, IsTrue, MatchOption, map};
 ghost use Rattle.sha2.specs.Sha256.{sha256};
@@ -25,7 +25,7 @@ const MOST_SIGNERS: usize = 100;
 
 const MOST_READERS: u32 = 64;
 
-// Whether there are 1 to 100 signers, and each has a key's name.
+// Reports whether there are 1 to 100 signers, each with a valid key name.
 fn are_signers(signers: &[Box<dyn Signer>]) -> bool
     ensures { IsTrue result ↔ AreSigners (map (λ s. signing_key s) signers.now) }
 {
@@ -39,7 +39,7 @@ fn are_signers(signers: &[Box<dyn Signer>]) -> bool
     }
 }
 
-// What is wrong with the origin, the signers or the number of readers.
+// Returns what is wrong with the origin, the signers or the number of readers.
 pub(crate) fn first_wrong(
     origin: &str,
     signers: &[Box<dyn Signer>],
@@ -62,7 +62,7 @@ pub(crate) fn first_wrong(
     None
 }
 
-// So many readers, which have seen what was published so far.
+// Returns `count` readers that have seen all publications so far.
 fn readers_of<R: Wait + Drop>(
     alloc: Global,
     run: &mut Run<R>,
@@ -82,7 +82,7 @@ fn readers_of<R: Wait + Drop>(
     Ok(all)
 }
 
-// An operator of this log, of which nothing is published, and its readers.
+// Returns an operator of this log, of which nothing is published, with its readers.
 pub(crate) fn begin<R: Wait + Drop>(
     rt: R,
     alloc: Global,
@@ -121,11 +121,12 @@ pub(crate) fn begin<R: Wait + Drop>(
 }
 
 impl<R: Wait + Drop> Operator<R> {
-    /// Opens an empty log of at most `limit` entries, with `lanes` lanes (1 to 64) whose rings have room for `capacity`
-    /// entries. The origin is one line, and there are 1 to 100 signers (C2SP tlog-checkpoint, signed-note). It gives a
-    /// submitter for each lane, in the order of the lanes, and `readers` readers (1 to 64). Nothing is published yet.
+    /// Opens an empty log of at most `limit` entries. It has `lanes` lanes (1 to 64), each with a ring of `capacity`
+    /// entries. The origin must be one line, and there must be 1 to 100 signers (C2SP tlog-checkpoint, signed-note).
+    /// Returns the operator, a submitter for each lane in order, and `readers` readers (1 to 64). Nothing is
+    /// published yet.
     ///
-    /// Of the faults that apply, the first is answered; `Place` and `OutOfMemory` come only where no other does.
+    /// If several faults apply, the first is returned. `Place` and `OutOfMemory` come only if no other applies.
     pub fn open(
         rt: R,
         alloc: Global,

@@ -17,29 +17,30 @@ use std::sync::Wait;
 use tl_note::{Signer, Verifier};
 use tl_sequencer::{EndRefused, Ended, Submitter, TakeFault};
 
-/// Runs a log: it takes what is submitted into the log, signs checkpoints and publishes. It keeps the handle `R`, since
-/// its drop waits for the readers.
+/// Runs a log: takes submitted entries into it, signs its checkpoints and publishes them. It keeps the runtime `R`
+/// because dropping it waits for the readers.
 #[derive(Drop)]
 pub struct Operator<R: Wait + Drop> {
     pub(crate) alloc: Global,
     pub(crate) origin: String,
     pub(crate) signers: Vec<Box<dyn Signer>>,
-    // So many of these witnesses must cosign; 0 where none must.
+    // `need` of these witnesses must cosign. `need` is 0 if no cosignature is required.
     pub(crate) witnesses: Vec<Box<dyn Verifier>>,
     pub(crate) need: u32,
-    // The note of what the growth of the log has taken in, where it is proposed to the witnesses.
+    // The note of the checkpoint that is proposed to the witnesses, which is that of the entries in `run.growth`.
     pub(crate) proposal: Option<String>,
     pub(crate) run: Run<R>,
 }
 
-/// A log that was opened: its operator, what submits to its lanes, in order, and what reads its board.
+/// A log that was opened: its operator, the submitter of each lane in order, and the readers of its board.
 pub type OpenedLog<R> = (
     Operator<R>,
     Vec<Submitter<Global, Global>>,
     Vec<BoardReader<Global>>,
 );
 
-/// What contracts see of a log that runs: its origin, the keys that sign, its log, and the history of its publications.
+/// What contracts see of a running log: its origin, its signers' keys, who must cosign, its entries, the proposal and
+/// the history of its publications.
 pub trait RunningLog {
     ghost use Rattle.std.specs.Global.{Global as GlobalValue};
     ghost use Rattle.tl_publisher.specs.Operating.{Operated};
@@ -68,9 +69,9 @@ impl<R: Wait + Drop> RunningLog for Operator<R> {
 }
 
 impl<R: Wait + Drop> Operator<R> {
-    /// Takes up to `max` entries of a lane, in the order in which they were submitted, to the end of the log, and
-    /// answers how many. It doesn't wait. `NoLane`: there is no such lane. `LogFull`: the log has as many entries as it
-    /// may have. A call that is refused changes nothing.
+    /// Appends up to `max` entries of a lane to the log, in the order in which they were submitted, and returns how
+    /// many. It doesn't wait. `NoLane` means that there is no such lane, `LogFull` that the log has as many entries
+    /// as it may have. An error changes nothing.
     pub fn take(&mut self, lane: u32, max: u64) -> Result<u64, TakeFault>
         ensures operating { IsOperating (⟦<Operator<R> as RunningLog>⟧.state self.old)
             → IsOperating (⟦<Operator<R> as RunningLog>⟧.state self.new) }
@@ -90,9 +91,9 @@ impl<R: Wait + Drop> Operator<R> {
         self.run.take(lane, max)
     }
 
-    /// Takes all that is left of the lane of an end, which is of a submitter of this operator, and answers how many
-    /// entries. It doesn't wait. `LogFull`: they are more than the log may have. A call that is refused changes nothing
-    /// and gives the end back.
+    /// Appends all entries left in the lane of an end, and returns how many. The end must be that of a submitter of
+    /// this operator. It doesn't wait. `LogFull` means that they don't all fit into the log. An error changes nothing
+    /// and returns the end.
     pub fn end(&mut self, ended: Ended<Global, Global>) -> Result<u64, EndRefused<Global, Global>>
         requires { IsEndOf ended (⟦<Operator<R> as RunningLog>⟧.state self.old).log }
         ensures operating { IsOperating (⟦<Operator<R> as RunningLog>⟧.state self.old)
@@ -113,7 +114,7 @@ impl<R: Wait + Drop> Operator<R> {
         self.run.end(ended)
     }
 
-    // Publishes the log, unless it is published or witnesses must cosign.
+    // Publishes the log, unless it is published already or witnesses must cosign.
     fn publish_log(&mut self) -> Result<Published, PublishFault>
         requires { IsOperating (⟦<Operator<R> as RunningLog>⟧.state self.old) }
         ensures keys { IsOfSame (⟦<Operator<R> as RunningLog>⟧.state self.old)
@@ -139,9 +140,9 @@ impl<R: Wait + Drop> Operator<R> {
     }
 
     /// Publishes the whole log in one step: its tiles and bundles (C2SP tlog-tiles), and a checkpoint signed by each
-    /// signer in order (C2SP tlog-checkpoint, signed-note). `Quorum`: witnesses are required, so that `propose` and
-    /// `attach` stand in its place. `NothingNew`: the last publication is of the whole log. `Sign`: a signer gave no
-    /// signature. It waits until no reader looks at what is replaced. A call that is refused changes neither the log
+    /// signer in order (C2SP tlog-checkpoint, signed-note). `Quorum` means that witnesses must cosign: use `propose`
+    /// and `attach`. `NothingNew` means that the last publication already has the whole log, `Sign` that a signer
+    /// gave no signature. Waits until no reader uses the version that is replaced. An error changes neither the log
     /// nor what is published.
     pub fn publish(&mut self) -> Result<Published, PublishFault>
         requires { IsOperating (⟦<Operator<R> as RunningLog>⟧.state self.old) }

@@ -1,4 +1,4 @@
-//! What was seen of the history of publications. It exists in the proofs alone, but for its length.
+//! The history of publications that somebody has seen. At run time it is only a length; the rest exists in proofs.
 ghost use Rattle.std.specs.Prelude.{◌≡◌, ◌+◌, ◌<◌, ◌^◌, ◌++◌, ◌∷◌, [], length, MatchBool};
 ghost use Rattle.tl_log.specs.Histories as histories;
 ghost use Rattle.tl_log.specs.Histories.{StartsWith};
@@ -8,7 +8,7 @@ ghost use Rattle.tl_publisher.specs.Pages.{head_of};
 use logbook::{Gain, Offer, Plain, Play, Rule, Seen, Start, Word};
 use std::marker::{Brand, Model, PhantomData};
 
-/// A publication, in the proofs. No value of it is made.
+/// A publication, in proofs. No value of this type is made.
 pub struct Publication {}
 
 impl Model for Publication {
@@ -20,7 +20,7 @@ impl Model for Publication {
     ghost view = { λ _. record { entries = []; note = [] } };
 }
 
-/// The rule of the book: its first word is the length of the history, and nobody else is told anything.
+/// The rule of the history's book: its first word is the length of the history. Nothing else is shared.
 pub struct HistoryRule;
 
 impl Rule<Publication, u64> for HistoryRule {
@@ -41,7 +41,7 @@ impl Rule<Publication, u64> for HistoryRule {
     ghost hinted = { λ _ _. Unit {0} };
 }
 
-/// Callers trade nothing.
+/// Says that callers gain nothing by a step.
 pub struct Nothing;
 
 impl Gain<Publication, u64> for Nothing {
@@ -50,7 +50,7 @@ impl Gain<Publication, u64> for Nothing {
     ghost after = { λ _ _ _. ftrue };
 }
 
-/// What is published next. Each call picks it.
+/// The publication that is added next. Each call chooses it.
 pub trait Next {
     ghost next: { histories.Prefix };
 }
@@ -59,7 +59,7 @@ impl Next for Brand {
     ghost next = { record { entries = []; note = [] } };
 }
 
-/// A step that adds a publication.
+/// A step that adds the publication `N::next`.
 pub struct Add<N> {
     next: PhantomData<N>,
 }
@@ -78,7 +78,7 @@ impl<N: Next> Plain<(), Publication, u64> for Add<N> {
     ghost state = { λ _. None };
 }
 
-/// A beginning of the history that was seen.
+/// A beginning of the history: what somebody has seen of it.
 #[derive(Drop)]
 pub struct Past {
     count: u64,
@@ -97,7 +97,7 @@ impl Model for Past {
 }
 
 impl Past {
-    /// A copy.
+    /// Returns a copy.
     pub(crate) fn again(&self) -> Past
         ensures { result ≡ self.now }
     {
@@ -107,7 +107,7 @@ impl Past {
         }
     }
 
-    /// Afterwards it has seen what both had.
+    /// Extends what was seen by what `other` has seen.
     pub(crate) fn learn(&mut self, other: &Past)
         requires { other.now.book ≡ self.old.book }
         ensures this { Grew self.old self.new }
@@ -121,7 +121,7 @@ impl Past {
         }
     }
 
-    /// Goes on to what another has seen, unless that is less.
+    /// Continues with what `other` has seen and returns true, unless that is less; then nothing changes.
     pub(crate) fn follow(&mut self, other: &Past) -> bool
         requires { other.now.book ≡ self.old.book }
         ensures { MatchBool result ((self.new ≡ other.now) × Grew self.old self.new)
@@ -138,7 +138,7 @@ impl Past {
     }
 }
 
-/// The book, as the one who publishes has it.
+/// The history as the writer of the board has it. Only the writer adds to it.
 #[derive(Drop)]
 pub struct HistoryWriter {
     head: Word<Publication, u64, HistoryRule>,
@@ -147,7 +147,7 @@ pub struct HistoryWriter {
 }
 
 impl HistoryWriter {
-    /// An empty history.
+    /// Returns an empty history.
     pub(crate) fn open() -> HistoryWriter
         ensures { result.past.log ≡ [] }
     {
@@ -158,14 +158,15 @@ impl HistoryWriter {
         }
     }
 
-    /// What was published.
+    /// Returns all publications so far.
     pub(crate) fn past(&self) -> &Past
         ensures { result.now ≡ self.now.past }
     {
         &self.past
     }
 
-    /// Adds a publication. It does not where the history has one that was not seen.
+    /// Adds the publication `N::next` and returns true, unless the history has a publication that this writer hasn't
+    /// seen.
     pub(crate) fn add<N: Next>(&mut self) -> bool
         requires room { length self.old.past.log < 2 ^ 62 }
         ensures book { self.new.past.book ≡ self.old.past.book }

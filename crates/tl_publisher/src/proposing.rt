@@ -1,4 +1,4 @@
-//! Who must cosign a checkpoint before it is shown, and what is proposed to them.
+//! Requiring witnesses, and proposing checkpoints to them.
 
 ghost use Rattle.std.specs.Prelude.{◌≡◌, ◌↔◌, IfErr, IfOk, IsTrue, MatchOption, map, string_bytes};
 ghost use Rattle.tl_publisher.specs.Inner.Requiring.{MayRequire};
@@ -14,15 +14,15 @@ use std::sync::Wait;
 use tl_checkpoint::have_distinct_names;
 use tl_note::{MOST_LINES, Verifier};
 
-/// A checkpoint that the signers signed, for the witnesses: the number of its entries, and its note (C2SP signed-note),
-/// which an add-checkpoint request sends (C2SP tlog-witness).
+/// A checkpoint for the witnesses: the number of its entries, and its note signed by the signers (C2SP signed-note).
+/// An add-checkpoint request sends the note (C2SP tlog-witness).
 #[derive(Debug, Drop)]
 pub struct Proposal {
     pub size: u64,
     pub note: String,
 }
 
-/// Witnesses that were not required, as they were handed in, and why.
+/// The error of `require`: the witnesses, unchanged, and why they weren't required.
 #[derive(Drop)]
 pub struct RequireBack {
     pub witnesses: Vec<Box<dyn Verifier>>,
@@ -31,7 +31,7 @@ pub struct RequireBack {
 }
 
 impl<R: Wait + Drop> Operator<R> {
-    // Whether so many of these witnesses can be required.
+    // Reports whether `need` of these witnesses can be required.
     fn may_need(&self, witnesses: &[Box<dyn Verifier>], need: u32) -> bool
         ensures { IsTrue result ↔ MayNeed (⟦<Operator<R> as RunningLog>⟧.state self.now)
             (record { witnesses = map (λ w. key w) witnesses.now; need = need }) }
@@ -42,7 +42,7 @@ impl<R: Wait + Drop> Operator<R> {
         witnesses.len() <= MOST_LINES && self.signers.len() <= MOST_LINES - witnesses.len()
     }
 
-    // Why these witnesses can't be required.
+    // Returns why these witnesses can't be required.
     fn refusal(&self, witnesses: &[Box<dyn Verifier>], need: u32) -> Option<RequireFault>
         ensures { MatchOption result
             (MayRequire (⟦<Operator<R> as RunningLog>⟧.state self.now)
@@ -62,9 +62,9 @@ impl<R: Wait + Drop> Operator<R> {
         None
     }
 
-    /// Requires that so many of these witnesses cosign each checkpoint before it is shown (C2SP tlog-cosignature). From
-    /// then on `propose` and `attach` stand in the place of `publish`. Of the faults that apply the first is answered;
-    /// the witnesses then come back and nothing has changed. It takes no memory and doesn't wait.
+    /// Requires that `need` of these witnesses cosign each checkpoint before it is published (C2SP tlog-cosignature).
+    /// From then on `propose` and `attach` replace `publish`. If several faults apply, the first is returned. An
+    /// error changes nothing and returns the witnesses. It allocates nothing and doesn't wait.
     pub fn require(
         &mut self,
         witnesses: Vec<Box<dyn Verifier>>,
@@ -91,10 +91,10 @@ impl<R: Wait + Drop> Operator<R> {
         Ok(())
     }
 
-    /// Signs the checkpoint of the log as it is, for the witnesses, and keeps it as what is proposed, in place of what
-    /// was before. Nothing is shown yet. `Quorum`: no witness is required. `NothingNew`: the last publication is of the
-    /// whole log. `Sign`: a signer gave no signature. A call that is refused changes nothing, and what was proposed
-    /// before stays. It doesn't wait.
+    /// Signs the checkpoint of the whole log for the witnesses and keeps it as the proposal, in place of an earlier
+    /// one. Nothing is published yet. `Quorum` means that no witness is required, `NothingNew` that the last
+    /// publication already has the whole log, `Sign` that a signer gave no signature. An error changes nothing and
+    /// keeps the earlier proposal. It doesn't wait.
     pub fn propose(&mut self) -> Result<Proposal, PublishFault>
         requires { IsOperating (⟦<Operator<R> as RunningLog>⟧.state self.old) }
         ensures operating { IsOperating (⟦<Operator<R> as RunningLog>⟧.state self.new) }

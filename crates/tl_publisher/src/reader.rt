@@ -20,7 +20,7 @@ use std::marker::Model;
 use tl_hash::Head;
 use tl_tile::Resource;
 
-/// Reads the board, and never waits. Contracts see what it has seen of the history of publications.
+/// Reads the board and never waits. Contracts see the history of publications that it has seen.
 #[derive(Drop)]
 pub struct BoardReader<A: Allocator> {
     reader: CopyReader<A>,
@@ -40,7 +40,7 @@ impl<A: Allocator> Model for BoardReader<A> {
     ghost invariant = { λ r. sides.view r.reader.place ≡ knows r.past.book };
 }
 
-// Goes on to what the copy shows, unless that is less.
+// Continues with the history that the copy shows and returns true, unless it is shorter than what was seen.
 fn follow<A: Allocator>(past: &mut Past, copy: &BoardCopy<A>) -> bool
     requires shown { stages.IsShown sha256 (stages.visible copy.now) }
     requires book { copy.now.past.book ≡ past.old.book }
@@ -50,7 +50,7 @@ fn follow<A: Allocator>(past: &mut Past, copy: &BoardCopy<A>) -> bool
     past.follow(copy.past())
 }
 
-/// The bytes under a resource, once more.
+/// Returns a copy of the bytes that the board shows for a resource.
 pub(crate) fn bytes_of<A: Allocator, B: Allocator>(
     copy: &BoardCopy<A>,
     alloc: B,
@@ -67,7 +67,7 @@ pub(crate) fn bytes_of<A: Allocator, B: Allocator>(
     }
 }
 
-// One look at a resource.
+// Looks once at the bytes of a resource.
 fn look<A: Allocator, B: Allocator>(
     reader: BoardReader<A>,
     ask: (B, Resource),
@@ -98,7 +98,7 @@ fn look<A: Allocator, B: Allocator>(
     }
 }
 
-// One look at size and root.
+// Looks once at the size and root.
 fn look_ahead<A: Allocator>(
     reader: BoardReader<A>,
     _nothing: (),
@@ -133,7 +133,8 @@ impl<A: Allocator> BoardReader<A> {
         BoardReader { reader, past }
     }
 
-    /// The bytes under a resource, if the log has published it.
+    /// Returns a copy of the bytes of a resource (C2SP tlog-tiles), or `None` if no publication needed it. `Gone`
+    /// means that the board is gone; then nothing changes. `OutOfMemory` comes only if there is something to copy.
     pub fn get<B: Allocator>(
         &mut self,
         alloc: B,
@@ -145,7 +146,8 @@ impl<A: Allocator> BoardReader<A> {
         replace_with(self, (alloc, *resource), look)
     }
 
-    /// Size and root of the last publication. It takes no memory.
+    /// Returns the size and root of the last publication, or `None` if there is none. It allocates nothing. `Gone`
+    /// means that the board is gone.
     pub fn head(&mut self) -> Result<Option<Head>, GetFault>
         ensures { AnswersHead
             (boards.head_if sha256 (last_of self.new.log)) self.old self.new result }
@@ -153,7 +155,7 @@ impl<A: Allocator> BoardReader<A> {
         replace_with(self, (), look_ahead)
     }
 
-    /// From now on it sees at least that publication.
+    /// Makes the reader show at least this publication from now on.
     pub fn learn(&mut self, published: &Published)
         requires { published.now.book ≡ self.old.book }
         ensures seen { Grew self.old self.new }

@@ -1,4 +1,4 @@
-//! How an operator goes on from a checkpoint that was published.
+//! Resuming a log from a checkpoint that was published.
 
 ghost use Rattle.std.specs.Prelude.{◌≡◌, ◌<◌, ◌≤◌, ◌^◌, ◌↔◌, ℕ, List, [], IfErr, IfOk, IsTrue, MatchBool, length, map, slice_index_or, vec_items};
 ghost use Rattle.sha2.specs.Sha256.{sha256};
@@ -24,7 +24,7 @@ use tl_tile::{BundleFault, bundle_width, read_bundle};
 
 const MOST_ENTRIES: u64 = 0xFFFF_FFFF;
 
-// The checkpoint of a note that opens, where it is of this origin.
+// Opens the note and returns its checkpoint if it is of this origin.
 fn checkpoint_of(
     alloc: Global,
     note: &str,
@@ -48,7 +48,7 @@ fn checkpoint_of(
     Ok(checkpoint)
 }
 
-// Whether a log may have so many entries, and these are as many bundles as they need.
+// Reports whether the log may have this many entries, and this is the number of bundles that they need.
 fn is_sized(size: u64, bundles: usize, limit: u64) -> bool
     ensures { IsTrue result ↔ ((size ≤ limit) × (size < 2 ^ 32) × (bundles ≡ bundle_count size)) }
 {
@@ -58,7 +58,7 @@ fn is_sized(size: u64, bundles: usize, limit: u64) -> bool
     bundles as u64 == (size + 255) / 256
 }
 
-// Why the bundle at this place was not read.
+// Converts the fault of the bundle at this position.
 fn bundle_refusal(fault: BundleFault, place: usize) -> ResumeFault
     ensures { result ≡ after_bundle place fault }
 {
@@ -68,7 +68,7 @@ fn bundle_refusal(fault: BundleFault, place: usize) -> ResumeFault
     }
 }
 
-// The entries of the bundle at this place.
+// Returns the entries of the bundle at this position.
 fn read_at(
     alloc: Global,
     bundles: &[Vec<u8>],
@@ -91,7 +91,7 @@ fn read_at(
     }
 }
 
-// The entries of the bundles of a log of this size.
+// Returns the entries of all bundles of a log of this size.
 fn read_all(alloc: Global, bundles: &[Vec<u8>], size: u64) -> Result<Vec<Vec<u8>>, ResumeFault>
     requires { length bundles.now ≡ bundle_count size }
     ensures length { IfOk result (λ base. length base.items ≡ size) }
@@ -107,7 +107,7 @@ fn read_all(alloc: Global, bundles: &[Vec<u8>], size: u64) -> Result<Vec<Vec<u8>
     Ok(base)
 }
 
-// The entries that the log begins with, and their growth.
+// Returns the entries that the log begins with, and their growth.
 fn base_of(
     alloc: Global,
     note: &str,
@@ -134,7 +134,7 @@ fn base_of(
     Ok((base, growth))
 }
 
-// Why the log was not opened.
+// Converts the fault of opening the sequencer.
 fn log_refusal(why: OpenFault) -> ResumeFault
     ensures { result ≡ after_sequencer why }
 {
@@ -144,7 +144,7 @@ fn log_refusal(why: OpenFault) -> ResumeFault
     }
 }
 
-// Why the operator was not opened.
+// Converts the fault of opening the operator.
 fn operator_refusal(fault: OperatorFault) -> ResumeFault
     ensures { result ≡ after_operator fault }
 {
@@ -155,13 +155,13 @@ fn operator_refusal(fault: OperatorFault) -> ResumeFault
 }
 
 impl<R: Wait + Drop> Operator<R> {
-    /// `open` with a log that begins with what was published: the entries of the bundles (C2SP tlog-tiles), which have
-    /// the size and root of the checkpoint that the note is and the verifiers open (C2SP tlog-checkpoint, signed-note).
-    /// Its extension lines don't count. Nothing is published yet, and the first publication may be of these entries
+    /// Opens a log, as `open` does, that begins with the entries of these bundles (C2SP tlog-tiles). Their number and
+    /// root must be those of the checkpoint in `note`, which the verifiers open (C2SP tlog-checkpoint, signed-note);
+    /// its extension lines are ignored. Nothing is published yet, and the first publication may have these entries
     /// alone.
     ///
-    /// Of the faults that apply, the first is answered. `OutOfMemory` comes of a note alone, and may stand in place
-    /// of any but `Note`.
+    /// If several faults apply, the first is returned. `OutOfMemory` comes only if `note` is a note, and then may
+    /// come in place of any fault but `Note`.
     pub fn resume(
         rt: R,
         alloc: Global,

@@ -1,4 +1,4 @@
-//! The rule of the board.
+//! The rule that the board and its readers keep, for the proofs.
 ghost use Rattle.tl_publisher.specs.Rules.{AllKnow, Looks, Names, Stays, second, newcomer};
 
 use crate::board_copy::{BoardCopy, Step};
@@ -9,7 +9,7 @@ use left_right::writer::Writer;
 use std::alloc::{Allocator, Global};
 use std::marker::Model;
 
-/// What the writer or a reader knows. No value of it is made.
+/// What the writer or a reader knows. No value of this type is made.
 pub struct Known {}
 
 impl Model for Known {
@@ -20,7 +20,7 @@ impl Model for Known {
     ghost view = { λ _. rules.newcomer };
 }
 
-/// The rule of the board: it shows its own history, and each that was told of its book was told of the board's own.
+/// The rule: the board shows its own history, and whoever knows a book knows the board's own.
 pub struct BoardRule;
 
 impl<A: Allocator> Protocol<BoardCopy<A>, Known> for BoardRule {
@@ -29,28 +29,28 @@ impl<A: Allocator> Protocol<BoardCopy<A>, Known> for BoardRule {
     ghost first = { newcomer };
 }
 
-/// A reader looks.
+/// The step of a reader that looks at the board.
 pub(crate) struct Look;
 
 impl<A: Allocator> Outcome<BoardCopy<A>, Known> for Look {
     ghost then = { Looks };
 }
 
-/// The writer names the book.
+/// The step by which the writer gets to know the board's book.
 pub(crate) struct Name;
 
 impl<A: Allocator> Outcome<BoardCopy<A>, Known> for Name {
     ghost then = { Names };
 }
 
-/// The writer publishes.
+/// The step of the writer that publishes.
 pub(crate) struct Show;
 
 impl<A: Allocator> Outcome<BoardCopy<A>, Known> for Show {
     ghost then = { Stays };
 }
 
-/// The book's name, told to a reader.
+/// The step that lets a reader know the board's book.
 pub(crate) struct Note;
 
 impl Split<Known> for Note {

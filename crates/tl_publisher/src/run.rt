@@ -1,4 +1,4 @@
-//! The log that runs, and what was published of it.
+//! A running log and what was published of it.
 
 ghost use Rattle.std.specs.Prelude.{◌≡◌, ℕ, ◌+◌, ◌<◌, ◌≤◌, ◌^◌, ◌↔◌, [], ◌∷◌, ◌++◌, List, length, take, vec_items, IsTrue, IfOk, IfErr, OnOk, OnErr};
 ghost use Rattle.sha2.specs.Sha256.{sha256};
@@ -24,7 +24,7 @@ use tl_hash::Head;
 use tl_sequencer::{Complete, EndRefused, Ended, Incomplete, Sequencer, TakeFault};
 
 /// A log, the growth of its tiles, and the board that shows it. Contracts see the log, how many of its entries the
-/// growth has taken in, and the history of publications.
+/// growth has, and the history of publications.
 #[derive(Drop)]
 pub(crate) struct Run<R: Wait + Drop> {
     log: Sequencer<Global, Global>,
@@ -43,7 +43,7 @@ impl<R: Wait + Drop> Model for Run<R> {
     ghost invariant = { λ r. running.IsRunning r.log r.growth r.board };
 }
 
-// Takes in the next entries of the log: four, or one where there are fewer or they fill a bundle.
+// Adds the next four entries of the log to the growth, or only one if there are fewer or they would fill a bundle.
 fn take_some(growth: &mut Growth<Global>, log: &Sequencer<Global, Global>) -> Result<(), AllocError>
     requires few { log.now.limit < 2 ^ 32 }
     requires within { growth.old.edge.size < length (entries_of log.now) }
@@ -73,7 +73,7 @@ fn take_some(growth: &mut Growth<Global>, log: &Sequencer<Global, Global>) -> Re
     Ok(())
 }
 
-// Takes in the entries of the log that the growth doesn't have yet. Where memory is refused it has some of them.
+// Adds the entries of the log that the growth doesn't have yet. If allocation fails it has some of them.
 fn take_in(growth: &mut Growth<Global>, log: &Sequencer<Global, Global>) -> Result<(), AllocError>
     requires few { log.now.limit < 2 ^ 32 }
     requires within { growth.old.edge.size ≤ length (entries_of log.now) }
@@ -105,7 +105,7 @@ impl<R: Wait + Drop> Run<R> {
         self.log.take(lane, max)
     }
 
-    /// Takes all that is left of the lane of an end, as `Sequencer::end` does.
+    /// Takes all entries left in the lane of an end, as `Sequencer::end` does.
     pub(crate) fn end(
         &mut self,
         ended: Ended<Global, Global>,
@@ -124,7 +124,7 @@ impl<R: Wait + Drop> Run<R> {
         self.log.end(ended)
     }
 
-    /// Whether the last publication is of the whole log.
+    /// Reports whether the last publication has the whole log.
     pub(crate) fn is_published(&self) -> bool
         ensures { IsTrue result ↔ EndsWith self.now.past.log (entries_of self.now.log) }
     {
@@ -134,7 +134,7 @@ impl<R: Wait + Drop> Run<R> {
         }
     }
 
-    /// Size and root of the log, all of which the growth has then taken in.
+    /// Adds the whole log to the growth, and returns the log's size and root.
     pub(crate) fn grow(&mut self) -> Result<Head, AllocError>
         ensures same { (self.new.log ≡ self.old.log) × (self.new.past ≡ self.old.past) }
         ensures grown { IfOk result (λ _. self.new.grown ≡ length (entries_of self.old.log)) }
@@ -146,7 +146,7 @@ impl<R: Wait + Drop> Run<R> {
         Ok(self.growth.head())
     }
 
-    /// Whether nothing was published.
+    /// Reports whether nothing was published.
     pub(crate) fn is_unpublished(&self) -> bool
         ensures { IsTrue result ↔ (self.now.past.log ≡ []) }
     {
@@ -156,7 +156,7 @@ impl<R: Wait + Drop> Run<R> {
         }
     }
 
-    /// Size and root of what the growth has taken in.
+    /// Returns the size and root of the entries that the growth has.
     pub(crate) fn grown(&self) -> Head
         ensures size { result.size ≡ length (take self.now.grown (entries_of self.now.log)) }
         ensures small { result.size < 2 ^ 32 }
@@ -166,7 +166,7 @@ impl<R: Wait + Drop> Run<R> {
         self.growth.head()
     }
 
-    /// A growth of the whole log, which goes on from the run's own.
+    /// Returns a growth of the whole log that continues the run's own, which stays as it is.
     pub(crate) fn next(&self) -> Result<Growth<Global>, AllocError>
         ensures { IfOk result (IsGrown sha256 self.now.grown (entries_of self.now.log)) }
     {
@@ -175,7 +175,7 @@ impl<R: Wait + Drop> Run<R> {
         Ok(next)
     }
 
-    /// Takes in a growth of the whole log.
+    /// Replaces the run's growth by one of the whole log, which `next` returned. If allocation fails nothing changes.
     pub(crate) fn adopt(&mut self, next: Growth<Global>) -> Result<(), AllocError>
         requires { IsGrown sha256 self.old.grown (entries_of self.old.log) next }
         ensures same { (self.new.log ≡ self.old.log) × (self.new.past ≡ self.old.past) }
@@ -185,7 +185,7 @@ impl<R: Wait + Drop> Run<R> {
         self.growth.join(next)
     }
 
-    /// Publishes what the growth has taken in, under this note.
+    /// Publishes the entries that the growth has, under this note.
     pub(crate) fn show(&mut self, note: Vec<u8>) -> Result<Published, AllocError>
         requires { stages.IsNextOf (last_of self.old.past.log)
             (published_as (take self.old.grown (entries_of self.old.log)) note.items) }
@@ -205,7 +205,8 @@ impl<R: Wait + Drop> Run<R> {
         Ok(Published::new(past, size))
     }
 
-    /// A log, not yet published, with the growth of its entries and room for so many readers.
+    /// Returns a run of this log, which isn't published yet, with the growth of its entries and room for `readers`
+    /// readers.
     pub(crate) fn open(
         rt: R,
         alloc: Global,
@@ -222,7 +223,7 @@ impl<R: Wait + Drop> Run<R> {
         Ok(Run { log, growth, board })
     }
 
-    /// A reader of the board, which has seen what was published so far.
+    /// Returns a reader of the board that has seen all publications so far.
     pub(crate) fn reader(&mut self) -> Result<BoardReader<Global>, AllocError>
         ensures same { self.new ≡ self.old }
         ensures reader { IfOk result (λ w. w ≡ self.old.past) }

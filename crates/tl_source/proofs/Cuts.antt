@@ -9,7 +9,7 @@ use Rattle.tl_source.specs.Inner.Authorities.{Lacks, BeginsWith}
 pub lacks_all : (mark : ℕ) (text : List ℕ) → ((i : ℕ) → i < length text → get_or text i 0 ≢ mark) → Lacks mark text
 lacks_all mark text none = All-from_get_or (λ b. b ≢ mark) text 0 none
 
--- the part in front of the first such byte
+-- the part before the first such byte
 pub lacks_before : (mark place : ℕ) (text front : List ℕ) → front ≡ take place text → place ≤ length text → ((i : ℕ) → i < place → get_or text i 0 ≢ mark) → Lacks mark front
 lacks_before mark place text front cut inside none =
     lacks_all mark front

@@ -19,7 +19,7 @@ pub port_begins : (text : List ℕ) (port : ℕ) → IsPort text port → Begins
 port_begins text port (inl none) = inl none.0
 port_begins text port (inr given) = inr (number_text port, given.0)
 
--- a text that is neither empty nor begins with a colon
+-- a text that isn't empty and doesn't begin with a colon
 pub no_port : (text : List ℕ) → 0 < length text → ((rest : List ℕ) → text ≢ 58 ∷ rest) → HasNoPort text
 no_port text some other port (inl none) = omega (arith, ap (λ (t : List ℕ). length t) none.0)
 no_port text some other port (inr given) = other (number_text port) given.0

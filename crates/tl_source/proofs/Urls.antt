@@ -9,7 +9,7 @@ use Rattle.tl_source.proofs.Hosts.{authority_lacks}
 same_rest : (a b : List ℕ) → codes "http://" ++ a ≡ codes "http://" ++ b → a ≡ b
 same_rest a b e = cc
 
--- a text whose part in front of the first slash after `http://` is no authority
+-- a text whose part before the first slash after `http://` is no authority
 pub no_url : (text rest front back : List ℕ) → text ≡ codes "http://" ++ rest → rest ≡ front ++ back → Lacks 47 front → BeginsWith 47 back → IsNoAuthority front → IsNoUrl text
 no_url text rest front back begun cut lacks begins none authority host port prefix u =
     let joined : authority ++ prefix ≡ front ++ back = same_rest _ _ (sym u.joined ∙ begun) ∙ cut in

@@ -12,23 +12,23 @@ use Rattle.tl_folder.specs.Places.{place_of}
 abbrev pub EndsWithSlash : Bytes → Type 0
 EndsWithSlash text = (front : Bytes) × (text ≡ front ++ codes "/")
 
--- a prefix without the slash that it may end with
+-- the prefix without the slash that it may end with
 abbrev pub IsFront : Bytes → Bytes → Type 0
 IsFront prefix front = (prefix ≡ front ++ codes "/") ⊎ (¬ (EndsWithSlash prefix) × (front ≡ prefix))
 
--- the target that stands for a resource under a prefix
+-- this is the request target of a resource under a prefix
 pub record IsTarget (prefix : Bytes) (resource : Resource) (target : Bytes) : Type 0 where
   pub front : Bytes
   pub cut : IsFront prefix front
   pub is : target ≡ place_of front resource
 
--- one request to the host of an address for the target of a resource gave this; i is the reader, o the writer
+-- one request to the host for the target of a resource had this outcome; i is the reader, o the writer
 pub record Asks (authority prefix : Bytes) (resource : Resource) (i o : Passage) (r : Outcome) : Type 0 where
   pub target : Bytes
   pub target_is : IsTarget prefix resource target
   pub gets : Gets authority target (most_bytes resource) i o r
 
--- one request for it may give these bytes: some response with status 200 has them as its body, and they aren't too many
+-- one request for the resource may give this body: that of a response with status 200, of at most `most_bytes`
 pub record MayGive (authority prefix : Bytes) (resource : Resource) (body : Bytes) : Type 0 where
   pub reader : Passage
   pub writer : Passage

@@ -5,7 +5,7 @@ use Rattle.tl_device.specs.declared.fault.DeviceFault.TheVariants as device
 use Rattle.tl_http.specs.declared.fault.HttpFault.{HttpFault}
 use Rattle.tl_http.specs.declared.fault.HttpFault.TheVariants as get
 
--- why a host gave no body, after the fault of a request, and by whether the time was over
+-- why a host gave no body: by the fault of the request and whether the time was over
 abbrev pub after_get : Bool → HttpFault → DeviceFault
 after_get true get.Read = device.TimedOut
 after_get false get.Read = device.Broken

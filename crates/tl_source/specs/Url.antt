@@ -4,7 +4,8 @@ use Rattle.std.specs.Char.{IsAsciiHexdigit}
 use Rattle.tl_hash.specs.Bytes.{Bytes}
 use Rattle.tl_text.specs.Text.{number_text}
 
--- visible ASCII, and none of `?`, `#` and `@`: no query, no fragment and no user is taken (sections 3.2.1, 3.4, 3.5)
+-- visible ASCII, but none of `?`, `#` and `@`: an address has no query, fragment or user here (sections 3.2.1, 3.4,
+-- 3.5)
 abbrev pub IsUrlByte : ℕ → Type 0
 IsUrlByte b = (33 ≤ b) × (b ≤ 126) × (b ≢ 63) × (b ≢ 35) × (b ≢ 64)
 
@@ -12,7 +13,7 @@ IsUrlByte b = (33 ≤ b) × (b ≤ 126) × (b ≢ 63) × (b ≢ 35) × (b ≢ 64
 abbrev pub IsNameByte : ℕ → Type 0
 IsNameByte b = (b ≢ 47) × (b ≢ 58) × (b ≢ 91) × (b ≢ 93)
 
--- the name or the IPv4 address of a host (section 3.2.2); not empty
+-- the name or IPv4 address of a host (section 3.2.2), which is not empty
 pub record IsName (host : Bytes) : Type 0 where
   pub some : 0 < length host
   pub plain : All IsNameByte host
@@ -21,7 +22,7 @@ pub record IsName (host : Bytes) : Type 0 where
 abbrev pub IsAddressByte : ℕ → Type 0
 IsAddressByte b = IsAsciiHexdigit b ⊎ ((b ≡ 58) ⊎ (b ≡ 46))
 
--- characters of an IPv6 address (section 3.2.2), at least one
+-- one or more characters of an IPv6 address (section 3.2.2)
 pub record IsAddress (host : Bytes) : Type 0 where
   pub some : 0 < length host
   pub plain : All IsAddressByte host
@@ -30,25 +31,25 @@ pub record IsAddress (host : Bytes) : Type 0 where
 abbrev pub IsPort : Bytes → ℕ → Type 0
 IsPort text port = ((text ≡ []) × (port ≡ 80)) ⊎ ((text ≡ 58 ∷ number_text port) × (port < 2 ^ 16))
 
--- an authority that is a name or an IPv4 address, and a port
+-- the authority is a name or an IPv4 address, and a port
 pub record IsNamed (authority host : Bytes) (port : ℕ) : Type 0 where
   pub rest : Bytes
   pub joined : authority ≡ host ++ rest
   pub host_is : IsName host
   pub port_is : IsPort rest port
 
--- an authority that is an IPv6 address between brackets, and a port; the host is what stands between the brackets
+-- the authority is an IPv6 address in brackets, and a port; the host is what is between the brackets
 pub record IsBracketed (authority host : Bytes) (port : ℕ) : Type 0 where
   pub rest : Bytes
   pub joined : authority ≡ 91 ∷ (host ++ 93 ∷ rest)
   pub host_is : IsAddress host
   pub port_is : IsPort rest port
 
--- an authority has this host and this port
+-- the authority has this host and port
 abbrev pub IsAuthority : Bytes → Bytes → ℕ → Type 0
 IsAuthority authority host port = IsNamed authority host port ⊎ IsBracketed authority host port
 
--- nothing, or a slash and more (section 3.3)
+-- empty, or a slash and more (section 3.3)
 abbrev pub IsPrefix : Bytes → Type 0
 IsPrefix prefix = (prefix ≡ []) ⊎ ((more : Bytes) × (prefix ≡ 47 ∷ more))
 

@@ -13,16 +13,16 @@ use tl_client::ResourceSource;
 use tl_folder::has_path;
 use tl_tile::Resource;
 
-/// A source of a log's resources that a host may have, which can be asked for several of them at once.
+/// A source that may have a host, which can be asked for several resources at once.
 pub trait AsksHost: ResourceSource {
     ghost use Rattle.std.specs.Prelude.{IfSome};
     ghost use Rattle.tl_source.specs.Ahead.{IsHostOf};
 
-    /// The host, if there is one.
+    /// Returns the host, or `None` if the source has none.
     fn host(&self) -> Option<&LogHost<'_>>
         ensures { IfSome result (λ host. IsHostOf host.now (Self.may_answer self.now)) };
 
-    /// Whether the host is asked for this resource, and nothing that is nearer has it.
+    /// Reports whether this resource would be asked of the host, since nothing nearer has it.
     fn asks_for(&self, resource: &Resource) -> bool;
 }
 
@@ -34,25 +34,25 @@ where
     H: Threads + Sync + Net<Listener = TcpListener, Stream = TcpStream> + Clock,
 {}
 
-/// How requests are sent: how many at once, by what, and with memory from where.
+/// How requests are sent: by what, with memory from where, and how many at once.
 #[derive(Drop)]
 pub struct Requests<'r, H> {
-    /// What connects to hosts and starts threads.
+    /// Opens connections and starts threads.
     pub rt: &'r H,
-    /// Where memory comes from.
+    /// The allocator.
     pub alloc: Global,
     /// The most requests that are in flight at once.
     pub at_once: u16,
 }
 
-/// What came of asking a host for a resource.
+/// A resource, and the bytes that a host answered for it.
 #[derive(Drop)]
 pub(crate) struct Got {
     pub(crate) resource: Resource,
     pub(crate) bytes: Vec<u8>,
 }
 
-// What a host answers with for a resource, if it has it.
+// Asks the host for a resource. It is `None` if no answer came.
 fn ask_host<H: Net<Stream = TcpStream> + Clock>(
     rt: &H,
     alloc: Global,
@@ -74,7 +74,7 @@ fn ask_host<H: Net<Stream = TcpStream> + Clock>(
     }
 }
 
-// The same for each of these resources, all at once.
+// Asks the host for each of these resources, all at once.
 fn ask_each<H: HostClient>(
     rt: &H,
     alloc: Global,
@@ -92,8 +92,8 @@ fn ask_each<H: HostClient>(
     )
 }
 
-/// What the host of a source answers with for the first of these resources, as many as are asked for at once; nothing
-/// where there is no host, or memory is refused.
+/// Asks the host of a source for the first `at_once` of these resources, all at once. Returns an empty list if there
+/// is no host or memory runs out.
 pub(crate) fn answers_of<
     S: AsksHost,
     H: Threads + Sync + Net<Listener = TcpListener, Stream = TcpStream> + Clock,

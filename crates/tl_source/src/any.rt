@@ -12,7 +12,7 @@ use std::time::Clock;
 use tl_client::ResourceSource;
 use tl_tile::{Resource, SourceFault};
 
-/// Where the resources of a log come from.
+/// A source of a log's resources: a folder or a host.
 #[derive(Drop)]
 pub enum AnySource<'s, H: Files + Net<Stream = TcpStream> + Clock> {
     /// The files under a folder.
@@ -53,7 +53,7 @@ impl<H: Files + Net<Stream = TcpStream> + Clock> ResourceSource for AnySource<'_
 
     ghost may_lack = { λ _ _. Unit {0} };
 
-    /// The bytes that the folder or the host has.
+    /// Returns the bytes that the folder or the host has.
     fn get<A: Allocator>(&self, alloc: A, resource: &Resource) -> Result<Vec<u8, A>, SourceFault> {
         match self {
             AnySource::Folder(source) => source.get(alloc, resource),

@@ -15,8 +15,8 @@ use tl_folder::{most_bytes, path_under};
 use tl_http::{HttpFault, get};
 use tl_tile::Resource;
 
-/// Asks the host of an address for a resource by one GET request, and gives the body of the response with status 200,
-/// at most `most_bytes`. The fault says why none came whole.
+/// Asks the host of an address for a resource with one GET request. Returns the body of a response with status 200,
+/// of at most `most_bytes`. The fault says why no whole body came.
 pub(crate) fn ask<I: Read, O: Write>(
     alloc: Global,
     reader: &mut Counted<I>,

@@ -1,4 +1,4 @@
-//! A source behind a cache of tiles.
+//! A source with a cache of tiles before it.
 
 ghost use Rattle.std.specs.Prelude.{◌≡◌};
 ghost use Rattle.tl_tile.specs.Path.{IsResource};
@@ -12,7 +12,7 @@ use tl_client::ResourceSource;
 use tl_folder::has_path;
 use tl_tile::{Resource, SourceFault};
 
-/// A source of a log's resources behind a cache of its tiles. Contracts see the cache and the source.
+/// A source of a log's resources with a cache of its tiles before it. Contracts see the cache and the source.
 #[derive(Drop)]
 pub struct CachedSource<'s, C: ResourceSource, S: ResourceSource> {
     alloc: Global,
@@ -27,7 +27,7 @@ impl<'s, C: ResourceSource, S: ResourceSource> Model for CachedSource<'s, C, S> 
 }
 
 impl<'s, C: ResourceSource, S: ResourceSource> CachedSource<'s, C, S> {
-    /// What the source has, with this cache of tiles in front of it. Nothing is asked for yet.
+    /// Returns the source with this cache of tiles before it. It reads nothing yet.
     pub fn new(alloc: Global, cache: &'s C, source: &'s S) -> CachedSource<'s, C, S>
         ensures { result ≡ (cache.now, source.now) }
     {
@@ -44,7 +44,7 @@ impl<C: ResourceSource, S: ResourceSource + AsksHost> AsksHost for CachedSource<
         self.source.host()
     }
 
-    /// A tile that the cache has is not asked for.
+    /// A tile that the cache has is not asked of the host.
     fn asks_for(&self, resource: &Resource) -> bool {
         match resource {
             Resource::Tile(_) if has_path(resource) => {
@@ -60,7 +60,7 @@ impl<C: ResourceSource, S: ResourceSource> ResourceSource for CachedSource<'_, C
 
     ghost may_lack = { λ s. may_lack_both (C.may_lack s.0) (S.may_lack s.1) };
 
-    /// A tile from the cache, and where that has it not, from the source; each other resource from the source.
+    /// Returns a tile from the cache or, if the cache lacks it, from the source; any other resource from the source.
     fn get<A: Allocator>(&self, alloc: A, resource: &Resource) -> Result<Vec<u8, A>, SourceFault> {
         match resource {
             Resource::Tile(_) => match self.cache.get(self.alloc, resource) {

@@ -12,7 +12,7 @@ use tl_folder::read_resource;
 use tl_tile::{Resource, SourceFault};
 
 /// The resources of a log in the plain files under a folder, each at its path (C2SP tlog-tiles). Contracts see the
-/// folder's text.
+/// folder's path.
 #[derive(Drop)]
 pub struct FolderSource<'s, H: Files> {
     files: &'s H,
@@ -31,7 +31,8 @@ impl<'s, H: Files> Model for FolderSource<'s, H> {
 }
 
 impl<'s, H: Files> FolderSource<'s, H> {
-    /// The resources under this folder, also in files that links lead to. Nothing is read.
+    /// Returns the source of the resources under this folder, including files that symbolic links lead to. It reads
+    /// nothing yet.
     pub fn new(files: &'s H, alloc: Global, folder: &'s str) -> FolderSource<'s, H>
         ensures { result ≡ folder.now }
     {
@@ -44,7 +45,8 @@ impl<'s, H: Files> FolderSource<'s, H> {
         }
     }
 
-    /// The same, where a link counts as no file, as in a cache of tiles. Nothing is read.
+    /// Returns the source of the resources under this folder, in which a symbolic link counts as no file, as in a
+    /// cache of tiles. It reads nothing yet.
     pub fn without_links(files: &'s H, alloc: Global, folder: &'s str) -> FolderSource<'s, H>
         ensures { result ≡ folder.now }
     {
@@ -66,8 +68,8 @@ impl<H: Files> ResourceSource for FolderSource<'_, H> {
 
     ghost may_lack = { λ _ _. Unit {0} };
 
-    /// The bytes of the resource's file. `Unavailable` where there is none, where it is no plain file, where it has
-    /// more bytes than `most_bytes`, and where it can't be read.
+    /// Returns the bytes of the resource's file. `Unavailable` means that there is no such file, that it is no plain
+    /// file, that it has more bytes than `most_bytes`, or that it can't be read.
     fn get<A: Allocator>(&self, alloc: A, resource: &Resource) -> Result<Vec<u8, A>, SourceFault> {
         let outcome = read_resource(
             alloc,

@@ -1,4 +1,4 @@
-//! A source whose full tiles and bundles stand for partial ones that are gone.
+//! A source that takes full tiles and bundles in place of partial ones that are gone.
 
 ghost use Rattle.std.specs.Prelude.{◌≡◌, ◌*◌, ◌<◌, ◌≤◌, ℕ, IfErr, IfOk, MatchOption, take};
 ghost use Rattle.tl_hash.specs.Bytes.{Bytes};
@@ -15,8 +15,8 @@ use tl_client::ResourceSource;
 use tl_device::DeviceFault;
 use tl_tile::{BundleFault, Resource, SourceFault, Tile, read_bundle, write_bundle};
 
-/// A source of a log's resources that answers with the front of a full tile or bundle where the partial one is there no
-/// more, as a log may remove it then (C2SP tlog-tiles, "Partial Tiles"). Contracts see the source.
+/// A source that answers with the beginning of a full tile or bundle if the partial one is gone, as a log may remove
+/// it once the full one is there (C2SP tlog-tiles, "Partial Tiles"). Contracts see the source.
 #[derive(Drop)]
 pub struct FullSource<'s, S: ResourceSource + NamesLack> {
     alloc: Global,
@@ -30,7 +30,7 @@ impl<'s, S: ResourceSource + NamesLack> Model for FullSource<'s, S> {
     ghost view = { λ s. s.source.now };
 }
 
-// The full tile of a partial one, and the full bundle; none of what is full.
+// Returns the full tile or bundle of a partial one, or `None` for any other resource.
 fn full_resource(resource: &Resource) -> Option<Resource>
     requires { IsResource resource.now }
     ensures { MatchOption result (Unit {0})
@@ -50,7 +50,7 @@ fn full_resource(resource: &Resource) -> Option<Resource>
     }
 }
 
-// Whether a resource isn't there, where it was asked for.
+// Reports whether the resource isn't there, by the reason for which the source lacked it.
 fn is_gone(lack: Option<Lack>) -> bool {
     match lack {
         Some(lack) => matches!(
@@ -61,7 +61,7 @@ fn is_gone(lack: Option<Lack>) -> bool {
     }
 }
 
-// The first so many entries of a bundle of 256, as a bundle; other bytes as they are.
+// Returns the first `width` entries of a bundle of 256, as a bundle; other bytes as they are.
 fn front_entries(alloc: Global, whole: &[u8], width: u32) -> Result<Vec<u8>, AllocError>
     requires some { 0 < width }
     requires most { width ≤ 256 }
@@ -78,7 +78,7 @@ fn front_entries(alloc: Global, whole: &[u8], width: u32) -> Result<Vec<u8>, All
     }
 }
 
-// The front of the bytes of a full tile.
+// Returns the first `width` hashes of a full tile.
 fn front_hashes(whole: &[u8], width: u32) -> &[u8]
     requires { width ≤ 256 }
     ensures { result.now ≡ take (32 * width) whole.now }
@@ -91,7 +91,7 @@ fn front_hashes(whole: &[u8], width: u32) -> &[u8]
     }
 }
 
-// What a partial tile or bundle has of a full one's bytes.
+// Returns the part of a full tile's or bundle's bytes that a partial one has.
 fn front_of<A: Allocator>(
     alloc: A,
     own: Global,
@@ -112,8 +112,8 @@ fn front_of<A: Allocator>(
 }
 
 impl<'s, S: ResourceSource + NamesLack> FullSource<'s, S> {
-    /// What the source has, with its full tiles and bundles in the place of partial ones that are gone. Nothing is
-    /// asked for yet.
+    /// Returns the source with its full tiles and bundles in place of partial ones that are gone. It reads nothing
+    /// yet.
     pub fn new(alloc: Global, source: &'s S) -> FullSource<'s, S>
         ensures { result ≡ source.now }
     {
@@ -124,7 +124,7 @@ impl<'s, S: ResourceSource + NamesLack> FullSource<'s, S> {
         }
     }
 
-    // The front of the full tile or bundle, where the partial one is gone.
+    // Returns the beginning of the full tile or bundle if the partial one is gone.
     fn get_front<A: Allocator>(
         &self,
         alloc: A,
@@ -171,7 +171,7 @@ impl<S: ResourceSource + NamesLack> ResourceSource for FullSource<'_, S> {
 
     ghost may_lack = { λ s. S.may_lack s };
 
-    /// What the source has; where it has no such partial tile or bundle any more, the front of the full one.
+    /// Returns what the source has or, if a partial tile or bundle is gone, the beginning of the full one.
     fn get<A: Allocator>(&self, alloc: A, resource: &Resource) -> Result<Vec<u8, A>, SourceFault> {
         let outcome = self.source.get(self.alloc, resource);
         self.last.keep(self.source.lack());

@@ -14,17 +14,17 @@ use tl_device::{Counted, DeviceFault, Timed};
 use tl_http::HttpFault;
 use tl_tile::Resource;
 
-/// The host of a log over HTTP/1.1, and how much time it has.
+/// The host of a log over HTTP/1.1, and how long a request to it may take.
 #[derive(Clone, Copy, Debug, PartialEq, Eq)]
 pub struct LogHost<'t> {
     /// The address of the log.
     pub url: Url<'t>,
-    /// The most time that getting a resource takes, but for the look-up of the host's name.
+    /// The most time that getting a resource takes, without the look-up of the host's name.
     pub limit: Duration,
 }
 
-/// A connection to the first address of the host that takes one, before the time since `start` is over. `NoHost`: it
-/// has no address; else why the last one took none.
+/// Connects to the first address of the host that accepts, before `limit` has passed since `start`. `NoHost` means
+/// that the host has no address; any other fault says why the last address failed.
 pub fn connect<H: Net<Stream = TcpStream> + Clock>(
     rt: &H,
     url: &Url<'_>,
@@ -45,7 +45,7 @@ pub fn connect<H: Net<Stream = TcpStream> + Clock>(
     Err(why)
 }
 
-// Why a host gave no body, where a request failed with this, after its time or before.
+// Returns why a host gave no body after this fault, given whether its time was over.
 fn why_none(fault: HttpFault, is_late: bool) -> DeviceFault
     ensures { result ≡ after_get is_late fault }
 {
@@ -64,7 +64,7 @@ fn why_none(fault: HttpFault, is_late: bool) -> DeviceFault
     }
 }
 
-// Whether the time since then is over.
+// Reports whether `limit` has passed since `start`.
 fn is_late<H: Clock>(rt: &H, start: &Instant, limit: Duration) -> bool {
     match start.elapsed(rt) {
         Ok(elapsed) => elapsed >= limit,
@@ -72,7 +72,7 @@ fn is_late<H: Clock>(rt: &H, start: &Instant, limit: Duration) -> bool {
     }
 }
 
-/// The body that a host answers with for a resource, by a connection of its own.
+/// Returns the body that a host answers for a resource, over a connection of its own.
 pub(crate) fn body_of<H: Net<Stream = TcpStream> + Clock>(
     rt: &H,
     alloc: Global,

@@ -14,8 +14,8 @@ use std::time::{Clock, Duration};
 use tl_client::ResourceSource;
 use tl_tile::{Resource, SourceFault};
 
-/// The resources of a log over HTTP/1.1, each at its path under an address (C2SP tlog-tiles), by a connection of its
-/// own. Contracts see the address.
+/// The resources of a log over HTTP/1.1, each at its path under an address (C2SP tlog-tiles). Each request has a
+/// connection of its own. Contracts see the address.
 #[derive(Drop)]
 pub struct HttpSource<'s, H: Net<Stream = TcpStream> + Clock> {
     rt: &'s H,
@@ -33,8 +33,8 @@ impl<'s, H: Net<Stream = TcpStream> + Clock> Model for HttpSource<'s, H> {
 }
 
 impl<'s, H: Net<Stream = TcpStream> + Clock> HttpSource<'s, H> {
-    /// The resources under this address. Getting one takes at most this time, but for the look-up of the host's name.
-    /// Nothing is asked for yet.
+    /// Returns the source of the resources under this address. Getting one takes at most `limit`, without the look-up
+    /// of the host's name. It connects to nothing yet.
     pub fn new(rt: &'s H, alloc: Global, url: Url<'s>, limit: Duration) -> HttpSource<'s, H>
         ensures { result ≡ url.entry }
     {
@@ -68,8 +68,8 @@ impl<H: Net<Stream = TcpStream> + Clock> ResourceSource for HttpSource<'_, H> {
 
     ghost may_lack = { λ _ _. Unit {0} };
 
-    /// The bytes that the host answers with status 200. `Unavailable` where it answers otherwise, not in time, or with
-    /// more bytes than `most_bytes`.
+    /// Returns the body that the host answers with status 200. `Unavailable` means that it answers otherwise, not in
+    /// time, or with more bytes than `most_bytes`.
     fn get<A: Allocator>(&self, alloc: A, resource: &Resource) -> Result<Vec<u8, A>, SourceFault> {
         let body = body_of(self.rt, self.alloc, &self.host, resource);
         let body = self.last.note(resource, body)?;

@@ -1,4 +1,4 @@
-//! What a source has not got, and why.
+//! Remembering which resource a source lacked, and why.
 
 ghost use Rattle.std.specs.Prelude.{◌≡◌};
 ghost use Rattle.tl_source.specs.Inner.Asking.{NotedAs, after_lack};
@@ -7,7 +7,7 @@ use std::cell::Cell;
 use tl_device::DeviceFault;
 use tl_tile::{Resource, SourceFault};
 
-/// A resource that a source has not got, and why.
+/// A resource that a source lacked, and why.
 #[derive(Clone, Copy, Debug, PartialEq, Eq)]
 pub struct Lack {
     /// The resource that was asked for.
@@ -16,7 +16,7 @@ pub struct Lack {
     pub why: DeviceFault,
 }
 
-// What the caller of a source is told.
+// Converts the reason into the fault that the source returns.
 fn told_as(why: DeviceFault) -> SourceFault
     ensures { result ≡ after_lack why }
 {
@@ -26,31 +26,31 @@ fn told_as(why: DeviceFault) -> SourceFault
     }
 }
 
-/// What the last call of a source lacked. No clause tells of it.
+/// What the last call of a source lacked. No contract says anything about it.
 #[derive(Drop)]
 pub(crate) struct LastLack {
     last: Cell<Option<Lack>>,
 }
 
 impl LastLack {
-    /// No call yet.
+    /// Returns the value before any call.
     pub(crate) fn new() -> LastLack {
         LastLack {
             last: Cell::new(None),
         }
     }
 
-    /// What the last call lacked, if it lacked anything.
+    /// Returns what the last call lacked, if anything.
     pub(crate) fn get(&self) -> Option<Lack> {
         self.last.get()
     }
 
-    /// Takes this for what was lacked.
+    /// Sets what was lacked.
     pub(crate) fn keep(&self, lack: Option<Lack>) {
         self.last.set(lack);
     }
 
-    /// Notes what came of a call for a resource.
+    /// Notes the outcome of a call for a resource, and returns it as the source does.
     pub(crate) fn note<T: Drop>(
         &self,
         resource: &Resource,
@@ -76,6 +76,6 @@ impl LastLack {
 
 /// A source that remembers what it lacked.
 pub trait NamesLack {
-    /// What the last call lacked, and why, if it lacked anything.
+    /// Returns what the last call lacked, and why, if it lacked anything.
     fn lack(&self) -> Option<Lack>;
 }

@@ -1,15 +1,22 @@
-//! Where the resources of a log come from: a folder, a host that answers over HTTP, and either of them behind a folder
-//! that keeps the tiles that passed all checks (`TileCache` of `tl_folder`).
+//! Sources of a log's resources: a folder of files, a host over HTTP, and a cache of tiles before either.
 //!
-//! ```
+//! Each source implements `tl_client::ResourceSource`: `get` returns the bytes of a tile, an entry bundle or the
+//! checkpoint by its path (C2SP tlog-tiles). Nothing is trusted here; the client checks everything that comes.
+//! Sources wrap one another: `CachedSource` looks for tiles in a cache first, `FullSource` takes a full tile or
+//! bundle if a log has removed the partial one, and `Window` asks a host for several resources at once, before they
+//! are needed.
+//!
+//! ```rust
 //! let url = Url::parse("http://log.example/2026/").unwrap();
 //! let source = HttpSource::new(&rt, alloc, url, Duration::from_secs(10));
 //! let cache = FolderSource::without_links(&rt, alloc, "cache");
 //! let source = CachedSource::new(alloc, &cache, &source);
 //! let mut fetched = FetchedTiles::new(alloc);
 //! let entries = read_entries(alloc, &source, size, root, 0, &mut fetched)?; // all of them are the log's
-//! TileCache::new(&rt, "cache").keep(alloc, &fetched)?; // the next call asks the host for no tile of these
+//! TileCache::new(&rt, "cache").keep(alloc, &fetched)?; // the next call asks the host for none of these tiles
 //! ```
+//!
+//! `read_entries` is in `tl_client`, `TileCache` in `tl_folder`. Keep a tile only if it has passed all checks.
 #![tactic(auto)]
 
 mod ahead;

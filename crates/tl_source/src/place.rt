@@ -1,4 +1,4 @@
-//! Where the resources of a log lie under an address or a folder.
+//! The paths of a log's resources under an address or a folder.
 
 ghost use Rattle.std.specs.Prelude.{string_bytes, IfOk, MatchOption};
 ghost use Rattle.tl_tile.specs.Path.{IsResource};
@@ -8,7 +8,7 @@ use std::alloc::{AllocError, Allocator};
 use tl_folder::{has_path, path_under};
 use tl_tile::Resource;
 
-/// A prefix without the slash that it may end with.
+/// Returns a prefix without the slash that it may end with.
 pub(crate) fn front_of(prefix: &str) -> &str
     ensures { IsFront prefix.now result.now }
 {
@@ -18,8 +18,8 @@ pub(crate) fn front_of(prefix: &str) -> &str
     }
 }
 
-/// Where a resource lies under a folder or an address, which may end with a slash; `None`: it has no path (C2SP
-/// tlog-tiles). It fails for want of memory alone.
+/// Returns the path of a resource under a folder or an address, which may end with a slash, or `None` if the resource
+/// has no path (C2SP tlog-tiles). It fails only if allocation fails.
 pub fn place_of<A: Allocator + Copy>(
     alloc: A,
     prefix: &str,

@@ -11,17 +11,17 @@ use tl_text::parse_size;
 /// The address of a log over HTTP (RFC 3986, section 3), `http://HOST[:PORT][/PREFIX]`.
 #[derive(Clone, Copy, Debug, PartialEq, Eq)]
 pub struct Url<'t> {
-    /// The host and the port as the text has them, which is what a field Host says.
+    /// The host and port as the text has them. The header field Host has the same text.
     pub authority: &'t str,
-    /// The name or the IPv4 address of the host, or its IPv6 address without the brackets that the text has round it.
+    /// The name or IPv4 address of the host, or its IPv6 address without the brackets around it.
     pub host: &'t str,
-    /// The port, 80 where the text has none.
+    /// The port, 80 if the text has none.
     pub port: u16,
-    /// What follows: nothing, or a slash and more.
+    /// The rest: empty, or a slash and more.
     pub prefix: &'t str,
 }
 
-// Whether each character is visible ASCII and none of `?`, `#` and `@`.
+// Reports whether each character is visible ASCII and none of `?`, `#` and `@`.
 fn is_plain(text: &str) -> bool
     ensures { IsTrue result ↔ All IsUrlByte text.now }
 {
@@ -32,7 +32,7 @@ fn is_plain(text: &str) -> bool
         && byte != b'@')
 }
 
-// Whether a text is the name or the IPv4 address of a host.
+// Reports whether the text is the name or IPv4 address of a host.
 fn is_name(text: &str) -> bool
     ensures { IsTrue result ↔ IsName text.now }
 {
@@ -40,21 +40,21 @@ fn is_name(text: &str) -> bool
         && text.bytes().all(|byte| byte != b'/' && byte != b':' && byte != b'[' && byte != b']')
 }
 
-// Whether an IPv6 address may have this character.
+// Reports whether an IPv6 address may have this character.
 fn is_address_byte(byte: u8) -> bool
     ensures { IsTrue result ↔ IsAddressByte byte }
 {
     byte.is_ascii_hexdigit() || byte == b':' || byte == b'.'
 }
 
-// Whether a text has the characters of an IPv6 address.
+// Reports whether the text is not empty and has only characters of an IPv6 address.
 fn is_address(text: &str) -> bool
     ensures { IsTrue result ↔ IsAddress text.now }
 {
     !text.is_empty() && text.bytes().all(|byte| is_address_byte(byte))
 }
 
-// The text in front of the first such character, and the rest from it on, which is empty where there is none.
+// Returns the text before the first such character and the rest from it on, which is empty if there is none.
 fn cut_at(text: &str, mark: char) -> (&str, &str)
     requires { mark < 128 }
     ensures joined { text.now ≡ result.0.now ++ result.1.now }
@@ -67,7 +67,7 @@ fn cut_at(text: &str, mark: char) -> (&str, &str)
     }
 }
 
-// The port that the end of an authority gives.
+// Returns the port that the end of an authority gives, 80 if it is empty.
 fn port_of(text: &str) -> Option<u16>
     ensures { MatchOption result (HasNoPort text.now) (λ port. IsPort text.now port) }
 {
@@ -87,7 +87,7 @@ fn port_of(text: &str) -> Option<u16>
     }
 }
 
-// The host and the port of an authority that names its host.
+// Returns the host and port of an authority with a name or an IPv4 address.
 fn named(authority: &str) -> Option<(&str, u16)>
     ensures { MatchOption result (IsNotNamed authority.now)
         (λ r. IsNamed authority.now r.0.now r.1) }
@@ -103,7 +103,7 @@ fn named(authority: &str) -> Option<(&str, u16)>
     }
 }
 
-// The host and the port of an authority with an IPv6 address, without the bracket that it begins with.
+// Returns the host and port of an authority with an IPv6 address. The text lacks the opening bracket.
 fn bracketed(authority: &str) -> Option<(&str, u16)>
     ensures { MatchOption result (IsNotBracketed authority.now)
         (λ r. IsBracketed (91 ∷ authority.now) r.0.now r.1) }
@@ -121,7 +121,7 @@ fn bracketed(authority: &str) -> Option<(&str, u16)>
     }
 }
 
-// The host and the port of an authority.
+// Returns the host and port of an authority.
 fn host_of(authority: &str) -> Option<(&str, u16)>
     ensures { MatchOption result (IsNoAuthority authority.now)
         (λ r. IsAuthority authority.now r.0.now r.1) }
@@ -133,9 +133,9 @@ fn host_of(authority: &str) -> Option<(&str, u16)>
 }
 
 impl<'t> Url<'t> {
-    /// The parts of an address. None where the text is no such address: it doesn't begin with `http://`; its host is
-    /// empty, or has a bracket or a colon and is no IPv6 address in brackets; its port is no decimal number below 2^16
-    /// without leading zeros; or it has a character that isn't visible ASCII, or one of `?`, `#` and `@`.
+    /// Parses an address into its parts. It is `None` if the text doesn't begin with `http://`; its host is empty, or
+    /// has a bracket or a colon and is no IPv6 address in brackets; its port is no decimal number below 2^16 without
+    /// leading zeros; or it has a character that isn't visible ASCII, or one of `?`, `#` and `@`.
     pub fn parse(text: &'t str) -> Option<Url<'t>>
         ensures { MatchOption result (IsNoUrl text.now)
             (λ url. IsUrl text.now url.authority.now url.host.now url.port url.prefix.now) }

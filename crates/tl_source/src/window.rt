@@ -1,4 +1,4 @@
-//! A source with resources of it that were got ahead.
+//! A source with some of its resources got ahead.
 
 ghost use Rattle.std.specs.Prelude.{◌≡◌, ◌↔◌, All, IsTrue, MatchOption};
 ghost use Rattle.tl_source.specs.Ahead.{IsAnswer};
@@ -10,8 +10,7 @@ use std::marker::Model;
 use tl_client::ResourceSource;
 use tl_tile::{Resource, SourceFault};
 
-/// A source of a log's resources, and what its host answered for some of them that will be asked for soon. Contracts
-/// see the source.
+/// A source with what its host answered for some resources before they are needed. Contracts see the source.
 #[derive(Drop)]
 pub struct Window<'s, S: AsksHost> {
     source: &'s S,
@@ -27,7 +26,7 @@ impl<'s, S: AsksHost> Model for Window<'s, S> {
 }
 
 impl<'s, S: AsksHost> Window<'s, S> {
-    /// The source, with nothing that was got ahead.
+    /// Returns the source with nothing got ahead.
     pub fn new(alloc: Global, source: &'s S) -> Window<'s, S>
         ensures { result ≡ source.now }
     {
@@ -37,8 +36,8 @@ impl<'s, S: AsksHost> Window<'s, S> {
         }
     }
 
-    /// Gets the first of these resources ahead, as many as are asked for at once, and lets go of what was got before.
-    /// What the host has not got is asked for again by `get`.
+    /// Asks the host for the first of these resources, as many at once as `requests` says, and drops what was got
+    /// before. `get` asks again for what didn't come.
     pub fn get_ahead<H: HostClient>(&mut self, requests: &Requests<'_, H>, wanted: &[Resource])
         ensures { self.new ≡ self.old }
     {
@@ -47,14 +46,14 @@ impl<'s, S: AsksHost> Window<'s, S> {
     }
 }
 
-// Whether two resources are the same.
+// Reports whether two resources are the same.
 fn is_same(one: &Resource, other: &Resource) -> bool
     ensures { IsTrue result ↔ (one.now ≡ other.now) }
 {
     one == other
 }
 
-// The bytes of a resource, where it is what was got.
+// Returns the bytes of a resource if they are what was got.
 fn bytes_of<'g>(one: &'g Option<Got>, resource: &Resource) -> Option<&'g [u8]>
     ensures { MatchOption result (Unit {0}) (λ bytes. IsGot one.now resource.now bytes.now) }
 {
@@ -65,7 +64,7 @@ fn bytes_of<'g>(one: &'g Option<Got>, resource: &Resource) -> Option<&'g [u8]>
 }
 
 impl<'s, S: AsksHost> Window<'s, S> {
-    // The bytes of a resource, where it was got ahead.
+    // Returns the bytes of a resource if they were got ahead.
     fn find(&self, resource: &Resource) -> Option<&[u8]>
         ensures { MatchOption result (Unit {0})
             (λ bytes. S.may_answer self.now resource.now bytes.now) }
@@ -84,7 +83,7 @@ impl<S: AsksHost> ResourceSource for Window<'_, S> {
 
     ghost may_lack = { λ s. S.may_lack s };
 
-    /// What was got ahead, and what wasn't from the source.
+    /// Returns what was got ahead, or else what the source has.
     fn get<A: Allocator>(&self, alloc: A, resource: &Resource) -> Result<Vec<u8, A>, SourceFault> {
         match self.find(resource) {
             Some(bytes) => Ok(Vec::from_slice(alloc, bytes)?),

@@ -1,4 +1,4 @@
--- What is decided of a body, by where it leads.
+-- What is decided of a body, by what it is.
 use Rattle.std.proofs.Common.{◌≡◌, ◌<◌, ℕ, List, Some, ap, subst, ◌∙◌, map, length, slice_get, get_or, arith, inl, inr}
 use Rattle.std.specs.Prelude.{slice_set}
 use Rattle.std.proofs.lemmas.Option.{slice_get_within}
@@ -21,7 +21,7 @@ pub of_other : (H : Digest) (body : List ℕ) (time : ℕ) (out : BookOutcome) (
     → ((placed : Placed) → ¬ (IsPlacedIn out.book other.signed.head.origin placed)) → RefusesAll out 404 → DecidesBody H body time out
 of_other H body time out origins other nowhere refused = inr (other.request, other.reads, inr (other.signed, other.note, inl (nowhere, refused)))
 
--- what came of it at one place
+-- the outcome at one position
 abbrev pub at_one : BookOutcome → Witnessed → Witnessed → Outcome
 at_one out one after = record { status = out.status; body = out.body; saved = out.saved; saved_after = out.saved_after; one = one; one_after = after }
 
@@ -32,11 +32,11 @@ at_place H body time out origins found is one after place changed decided =
     let asked = subst (λ (a : Asked). Decides H a (at_one out one after)) (is.asks time) decided in
     inr (is.request, is.reads, inr (is.signed, is.note, inr (record { place = found.place; one = one }, place, (after, changed, asked))))
 
--- a body that leads to a place may ask for memory
+-- memory may be allocated for a body whose origin is known
 pub found_asks : {A : Type 0} (body : List ℕ) (origins : List (List ℕ)) (found : Found A) → IsFound body origins found → AsksForMemory body
 found_asks body origins found is = (is.request, is.reads)
 
--- what shows at a place is within the list
+-- a position at which something shows is within the list
 pub shown_within : {A B : Type 0} (f : A → B) (xs : List A) (i : ℕ) (y : B) → slice_get (map f xs) i ≡ Some y → i < length xs
 shown_within f xs i y there =
     let within = slice_get_within (map f xs) i y there in

@@ -60,7 +60,7 @@ more f g origins new is puts = record { found = found; absent = absent }
               | inr same ↦ let no : true ≡ false = sym ((bytes_eq-Decides new o).1 same) ∙ e in absurd cc
             ]
 
--- what stands twice in a longer list
+-- what is in a longer list twice
 twice_or : {A : Type 0} (xs : List A) (y : A) → HasTwice (xs ++ y ∷ []) → HasTwice xs ⊎ IsAmong y xs
 twice_or [] y (inl none) = absurd none
 twice_or [] y (inr none) = absurd none
@@ -121,7 +121,7 @@ known_among index origins o is known = go (index o) refl
 pub among_known : (index : Index) (origins : List (List ℕ)) (o : List ℕ) → Indexes index origins → IsAmong o origins → index o ≢ None
 among_known index origins o is among out = let at = at_some origins o among in is.absent o at.0 out at.1
 
--- all that have a place are among them, and the first that has none is the first that isn't
+-- all that have a position are among them, and the first that has none is the first that isn't
 pub all_known : (index : Index) (origins os : List (List ℕ)) → Indexes index origins → All (λ o. index o ≢ None) os → All (λ o. IsAmong o origins) os
 all_known index origins os is each = λ k d lt. known_among index origins (get_or os k d) is (each k d lt)
 
@@ -134,7 +134,7 @@ first_not_known index origins os place is first = record {
   before = all_known index origins (take place os) is first.before;
 }
 
--- a look-up without a place
+-- a look-up that finds no position
 pub unknown : (found known : Option ℕ) → found ≡ known → is_some found ≡ false → ¬ (known ≢ None)
 unknown None known e none is = is (sym e)
 unknown (Some i) known e none is = absurd cc

@@ -44,7 +44,7 @@ module _ {A : Type 0} (view : A → SavedChain) (xs : List A) (index : Index) (o
   named_so : map (λ (x : A). (view x).origin) xs ≡ chain_origins (map view xs)
   named_so = shown_twice view (λ (c : SavedChain). c.origin) (λ (x : A). (view x).origin) xs (λ x. refl)
 
-  -- the place that the index gives is one of this origin
+  -- the position that the index gives has this origin
   pub known_there : (place : ℕ) → Some place ≡ index origin → slice_get (map (λ (x : A). (view x).origin) xs) place ≡ Some origin
   known_there place found =
       let there : slice_get (chain_origins (map view xs)) place ≡ Some origin = is.found origin place (sym found) in
@@ -53,7 +53,7 @@ module _ {A : Type 0} (view : A → SavedChain) (xs : List A) (index : Index) (o
   pub known_within : (place : ℕ) → Some place ≡ index origin → place < length xs
   known_within place found = let within = slice_get_within (map (λ (x : A). (view x).origin) xs) place origin (known_there place found) in omega (arith, within, length-map xs (λ (x : A). (view x).origin))
 
-  -- where it gives none, none is
+  -- if the index gives none, there is none
   pub unknown_there : None ≡ index origin → (place : ℕ) → slice_get (map (λ (x : A). (view x).origin) xs) place ≢ Some origin
   unknown_there none place there = is.absent origin place (sym none) (ap (λ (os : List (List ℕ)). slice_get os place) (sym named_so) ∙ there)
 

@@ -47,7 +47,7 @@ unfolding Linked
 linked-after H old [] more all = all
 linked-after H old (s ∷ steps) more all = linked-after H (head_after s) steps more all.1
 
--- the head after the steps is that of the step at the last place
+-- the head after the steps is that of the last step
 pub last_head-at : (old : TreeHead) (steps : List Step) (i : ℕ) (step : Step)
     → slice_get steps i ≡ Some step → i + 1 ≡ length steps → last_head old steps ≡ head_after step
 last_head-at old [] i step there last = absurd (omega arith)
@@ -55,7 +55,7 @@ last_head-at old (s ∷ []) zero step there last = (let e : s ≡ step = cc in a
 last_head-at old (s ∷ (m ∷ steps)) zero step there last = absurd (omega arith)
 last_head-at old (s ∷ steps) (suc i) step there last = last_head-at (head_after s) steps i step there (omega arith)
 
--- the same of the last place
+-- the same of the last position
 pub last_head-last : (old : TreeHead) (steps : List Step) (step : Step)
     → slice_get steps (length steps - 1) ≡ Some step → last_head old steps ≡ head_after step
 last_head-last old steps step there =
@@ -85,7 +85,7 @@ chain-snoc H steps step is follows made = record {
 pub line_made : (l : ChainLine) → IsChainLine l → MadeOfHashes l.step
 line_made l is = (is.root.length, λ k d lt. (is.hashes k d lt).length)
 
--- what the steps before a place lead to, and the step there
+-- what the steps before a position lead to, and the step there
 pub record HasCome {A : Type 0} (H : Digest) (f : A → Step) (xs : List A) (i size : ℕ) (root : List ℕ) : Type 0 where
   pub chain : IsChain H (map f (take i xs))
   pub size_is : (last_head (first_head H) (map f (take i xs))).size ≡ size
@@ -118,17 +118,17 @@ come_break H f xs i size root x lt is come breaks = record {
   breaks = λ follows. breaks (rw (← come.size_is, ← come.root_is) (subst (λ (l : List Step). Follows H (last_head (first_head H) l) (f x)) (take-map f i xs) follows));
 }
 
--- what a call ensures where a test finds no error
+-- what a call ensures if a test finds no error
 pub unless_err : {T E : Type 0} (r : Result T E) (Fact : Type 0) → false ≡ is_err r → OnOk r Fact → Fact
 unless_err (Ok x) Fact test fact = fact
 unless_err (Err y) Fact test fact = absurd cc
 
--- what is so holds where there is an error
+-- what holds if there is an error
 pub at_err : {T E : Type 0} (r : Result T E) (Fact : Type 0) → Fact → OnErr r Fact
 at_err (Ok x) Fact fact = tt
 at_err (Err y) Fact fact = fact
 
--- no step is last where there is none
+-- there is no last step if there is none
 pub last_head-none : {A : Type 0} (f : A → Step) (old : TreeHead) (xs : List A) → None ≡ slice_get xs (length xs - 1) → last_head old (map f xs) ≡ old
 last_head-none f old [] none = refl
 last_head-none f old (x ∷ xs) none =

@@ -1,4 +1,4 @@
--- A key under a name that was kept.
+-- A key under the name that it had when the book was opened.
 use Rattle.std.proofs.Common.{◌≡◌, ℕ, List, ap}
 use Rattle.tl_note.specs.Key.{SigningKey, named_key}
 

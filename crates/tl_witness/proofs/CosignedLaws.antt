@@ -1,4 +1,5 @@
--- Of two cosigned checkpoints of one origin, each list of the earlier one is a prefix of each of the later one, or bytes collide.
+-- Of two cosigned checkpoints of one origin, each list of the earlier one is a prefix of each list of the later one,
+-- or two strings collide.
 use Rattle.std.proofs.Common.{◌≡◌, ℕ, zero, suc, List, [], ◌∷◌, ◌++◌, Some, ◌⊎◌, inl, inr, refl, ap, sym, ◌∙◌, subst, slice_get, arith, length, All}
 use Rattle.std.specs.Prelude.{slice_set}
 use Rattle.std.proofs.lemmas.List.Elements.{All-tail}
@@ -128,7 +129,7 @@ among_origin [] i one origin there same = absurd cc
 among_origin (b ∷ book) zero one origin there same = let is : b ≡ one = cc in inl (ap (λ (o : Witnessed). o.origin) is ∙ same)
 among_origin (b ∷ book) (suc i) one origin there same = inr (among_origin book i one origin there same)
 
--- an origin that stands once stands at one place
+-- an origin that is there once is at one position
 once_at : (book : List Witnessed) (i j : ℕ) (one other : Witnessed) → ¬ (HasTwice (origins_of book)) → slice_get book i ≡ Some one → slice_get book j ≡ Some other
     → one.origin ≡ other.origin → i ≡ j
 once_at [] i j one other once here there same = absurd cc

@@ -9,7 +9,7 @@ use Rattle.tl_witness.specs.ChainFields.{IsWithout, field}
 use Rattle.tl_witness.specs.Inner.ChainFields.{HasNoNumber, HasNoHash}
 use Rattle.tl_witness.proofs.FieldTexts.{without_space, number_visible, base64_visible}
 
--- what stands round the first space of a text that begins with a field
+-- what is before and after the first space of a text that begins with a field
 pub field_parts : (text words rest : List ℕ) (r : Option (Bor (List ℕ) × Bor (List ℕ))) → IsSplitOnceResult 32 text r → IsWithout 32 words → text ≡ field words rest
     → MatchOption r ⊥ (λ x. (x.0.now ≡ words) × (x.1.now ≡ rest))
 field_parts text words rest r split plain e = split_after 32 text words rest r split (omega arith) e (λ i lt. plain i 0 lt)

@@ -1,4 +1,4 @@
--- Where a body leads.
+-- What finding the origin of a body answers.
 use Rattle.std.proofs.Common.{◌≡◌, ℕ, List, Some, refl, slice_get, sym, ap, subst}
 use Rattle.std.specs.Prelude.{IsUtf8}
 use Rattle.tl_proof.specs.Acceptance.{Step}
@@ -11,7 +11,7 @@ use Rattle.tl_witness.specs.Inner.Offer.{asked_by}
 use Rattle.tl_witness.specs.Request.{Body, IsRequest}
 use Rattle.tl_witness.proofs.LineOf.{line_of}
 
--- a request whose note is a checkpoint leads to the place of its origin
+-- for a request whose note is a checkpoint the position of its origin is found
 pub leads_there : {A : Type 0} (body : List ℕ) (origins : List (List ℕ)) (found : Found A) (request : Body) (signed : Signed) → IsRequest body request → IsSigned request.note signed
     → IsUtf8 signed.head.origin → slice_get origins found.place ≡ Some signed.head.origin → ((time : ℕ) → asked_by found.offer time ≡ asked_of request signed time)
     → IsFound body origins found

@@ -1,4 +1,4 @@
--- Laws of the chains that lines say, as one line more comes behind them.
+-- Laws of the chains that lines state, when one line more follows.
 use Rattle.std.proofs.Common.{◌≡◌, ◌≢◌, ℕ, zero, suc, Bool, true, false, List, [], ◌∷◌, ◌++◌, map, refl, sym, ap, subst, ◌∙◌, cond, inl, inr, Some}
 use Rattle.std.specs.Prelude.{◌||◌, not, bytes_eq, filter, slice_get, slice_set}
 use Rattle.std.specs.List.{list_any}
@@ -145,13 +145,13 @@ grouped_more lines l is = elim (cases_Bool (has l.origin lines)) [
 
 -- ---- the chains
 
--- what is changed at one value only, where that isn't among them
+-- a function changed at one value only, for values that aren't this one
 same_others : {A B : Type 0} (f g : A → B) (x : A) (xs : List A) → ¬ (IsAmong x xs) → ((y : A) → y ≢ x → g y ≡ f y) → map g xs ≡ map f xs
 same_others f g x [] apart same = refl
 same_others f g x (y ∷ xs) apart same =
     ap (λ (z : _). z ∷ map g xs) (same y (λ e. apart (inl e))) ∙ ap (λ (zs : List _). f y ∷ zs) (same_others f g x xs (λ is. apart (inr is)) same)
 
--- and where it is among them once
+-- for values of which one is this one
 changed_once : {A B : Type 0} (f g : A → B) (x : A) (v : B) (xs : List A) (place : ℕ) → ¬ (HasTwice xs) → slice_get xs place ≡ Some x → g x ≡ v
     → ((y : A) → y ≢ x → g y ≡ f y) → map g xs ≡ slice_set (map f xs) place v
 changed_once f g x v [] place once there now same = absurd cc

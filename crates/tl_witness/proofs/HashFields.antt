@@ -11,7 +11,7 @@ use Rattle.tl_witness.specs.Inner.ChainFields.{HasHashes, HasNoHash, HasNoHashes
 use Rattle.tl_witness.proofs.FieldTexts.{one_end}
 use Rattle.tl_witness.proofs.FieldLaws.{hash_without}
 
--- what was read of so many, and what is left to read
+-- the hashes that were read, of at most `count`, and the text that is left
 pub record HasRead (count : ℕ) (text : List ℕ) (done : List (List ℕ)) (left : List ℕ) : Type 0 where
   pub utf8 : IsUtf8 left
   pub each : All IsHash done
@@ -32,7 +32,7 @@ reads_more count text left rest hash done read room is e utf8 = record {
   whole = read.whole ∙ ap (hashes_before done) e ∙ sym (fields_more done hash rest);
 }
 
--- what is left goes on as the text does, with a hash where some are missing
+-- what is left goes on as the text does, with a hash if some are missing
 after_done : (done hashes : List (List ℕ)) (left rest : List ℕ) → All IsHash done → All IsHash hashes → length done < length hashes
     → hashes_before hashes rest ≡ hashes_before done left → HasNoHash left → ⊥
 after_done [] [] left rest d h less e none = absurd (omega arith)
@@ -47,7 +47,7 @@ pub no_hashes : (count : ℕ) (text left : List ℕ) (done : List (List ℕ)) �
 no_hashes count text left done read room none = λ hashes rest each number e.
     after_done done hashes left rest read.each each (omega arith) (sym e ∙ read.whole) none
 
--- so many hashes were passed over
+-- this many hashes were passed over
 pub record HasSkipped (count : ℕ) (text : List ℕ) (number : ℕ) (left : List ℕ) : Type 0 where
   pub done : List (List ℕ)
   pub read : HasRead count text done left
@@ -69,7 +69,7 @@ skips_all count text left number has all = (has.done, record { each = has.read.e
 pub no_skip : (count : ℕ) (text left : List ℕ) (number : ℕ) → HasSkipped count text number left → number < count → HasNoHash left → HasNoHashes count text
 no_skip count text left number has less none = no_hashes count text left has.done has.read (omega (arith, has.counted)) none
 
--- a text that begins with so many hashes goes on with one
+-- if a text begins with `count` hashes and fewer were read, another one follows
 pub goes_on : (count : ℕ) (text left rest : List ℕ) (done : List (List ℕ)) → HasRead count text done left → length done < count → HasNoHash left → HasHashes count text rest → ⊥
 goes_on count text left rest done read room none is = no_hashes count text left done read room none is.0 rest is.1.each is.1.number is.1.whole
 

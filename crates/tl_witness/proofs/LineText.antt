@@ -16,7 +16,7 @@ use Rattle.tl_witness.specs.ChainFields.{IsWithout, HasNoLine, chain_words, fiel
 use Rattle.tl_witness.specs.Inner.ChainFields.{IsNoChainLine}
 use Rattle.tl_witness.proofs.FieldTexts.{number_visible, base64_visible, without_newline, one_end}
 
--- hashes before their spaces, and behind them
+-- hashes with spaces after them, and with spaces before them
 spaces_moved : (hashes : List (List ℕ)) (origin : List ℕ) → spaced_hashes hashes ++ 32 ∷ origin ≡ 32 ∷ hashes_before hashes origin
 spaces_moved [] origin = refl
 spaces_moved (h ∷ hashes) origin =

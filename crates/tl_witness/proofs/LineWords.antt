@@ -95,7 +95,7 @@ no_origin words count left origin proof read each number whole none = λ l is e.
     let same : origin ≡ l.origin = (hashes_once proof l.step.proof origin l.origin each is.hashes (number ∙ cut.0) (sym whole ∙ cut.1)).1 in
     none (rw same is.origin)
 
--- the fields of a line, one behind the other
+-- the fields of a line, one after another
 pub fields_shown : (words before after : List ℕ) (fields : Fields) → IsSize fields.size → words ≡ field (number_text fields.size) before → IsHash fields.root → before ≡ field (base64_text fields.root) after
     → after ≡ field (number_text fields.count) fields.hashes.now → fields.count ≤ 63 → HasHashes fields.count fields.hashes.now fields.origin.now → IsUtf8 fields.origin.now → IsOneLine fields.origin.now → ShowsFields words fields
 fields_shown words before after fields small first is_hash second third few has utf8 one =

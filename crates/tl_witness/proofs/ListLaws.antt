@@ -1,4 +1,4 @@
--- Laws of lists, of what is among them and of what holds of all.
+-- Laws of lists: what is among them, and what holds of all.
 use Rattle.std.proofs.Common.{◌≡◌, ◌≢◌, ℕ, zero, suc, ◌+◌, ◌<◌, List, [], ◌∷◌, ◌++◌, Some, ◌⊎◌, inl, inr, refl, sym, ap, subst, ◌∙◌, map, take, drop, length, get_or, slice_get, arith, All}
 use Rattle.std.specs.List.{AllZip}
 use Rattle.std.proofs.lemmas.List.{map_more, get_or-map, length-map, take-map}
@@ -17,7 +17,7 @@ among_none [] x none is = is
 among_none (y ∷ xs) x none (inl same) = none 0 (ap (λ (z : _). Some z) same)
 among_none (y ∷ xs) x none (inr later) = among_none xs x (λ i. none (suc i)) later
 
--- what is left, where this one stands first
+-- what is left if this one is the first
 pub left_from : {A : Type 0} (xs : List A) (i : ℕ) (x : A) → i < length xs → x ≡ get_or xs i x → drop i xs ≡ x ∷ drop (i + 1) xs
 left_from xs i x lt is =
     let next : suc i ≡ i + 1 = omega arith in
@@ -75,13 +75,13 @@ among_or x y [] (inr none) = absurd none
 among_or x y (z ∷ xs) (inl same) = inr (inl same)
 among_or x y (z ∷ xs) (inr later) = elim (among_or x y xs later) [ inl same ↦ inl same | inr is ↦ inr (inr is) ]
 
--- what comes again stands twice
+-- what comes again is there twice
 pub comes_again : {A : Type 0} (x : A) (xs ys : List A) → IsAmong x xs → HasTwice (xs ++ x ∷ ys)
 comes_again x [] ys is = absurd is
 comes_again x (y ∷ xs) ys (inl same) = inl (subst (λ (z : _). IsAmong z (xs ++ x ∷ ys)) (sym same) (among_last x xs ys))
 comes_again x (y ∷ xs) ys (inr later) = inr (comes_again x xs ys later)
 
--- one pair more, place by place
+-- one pair more, position by position
 pub zip_more : {A B : Type 0} (R : A → B → Type 0) (xs : List A) (ys : List B) (x : A) (y : B) → AllZip R xs ys → R x y → AllZip R (xs ++ x ∷ []) (ys ++ y ∷ [])
 zip_more R [] [] x y each one = (one, tt)
 zip_more R [] (z ∷ ys) x y each one = absurd each

@@ -1,4 +1,4 @@
--- A list that is moved, one element after the other, into another.
+-- A list that is moved into another, one element after the other.
 use Rattle.std.proofs.Common.{◌≡◌, ℕ, ◌+◌, ◌<◌, get_or, take, List, [], ◌∷◌, ◌++◌, refl, sym, ap, subst, ◌∙◌, map, length, append_assoc, append-nil, arith, All}
 use Rattle.std.proofs.lemmas.List.Elements.{All-push}
 use Rattle.std.proofs.lemmas.List.{length-map, map-append, map_more}
@@ -29,7 +29,7 @@ shown_twice view g f (x ∷ xs) same = ap (λ (t : _). t ∷ map f xs) (same x) 
 pub moved_each : {G Y : Type 0} (P : Y → Type 0) (h : G → Y) (done : List G) (one : G) → All P (map h done) → P (h one) → All P (map h (done ++ one ∷ []))
 moved_each P h done one each is = subst (All P) (sym (map-append h done (one ∷ []))) (All-push P (map h done) (h one) each is)
 
--- copies that show as what was copied, and one more
+-- copies that show the same as what was copied, and one more
 pub copied_more : {E G Y : Type 0} (f : E → Y) (h : G → Y) (xs : List E) (i : ℕ) (x : E) (copies now : List G) (copy : G)
     → i < length xs → x ≡ get_or xs i x → map h copies ≡ map f (take i xs) → h copy ≡ f x → now ≡ copies ++ copy ∷ [] → map h now ≡ map f (take (i + 1) xs)
 copied_more f h xs i x copies now copy lt is so_far same pushed =
@@ -38,7 +38,7 @@ copied_more f h xs i x copies now copy lt is so_far same pushed =
     ∙ (ap (λ (t : List _). t ++ h copy ∷ []) so_far
     ∙ (ap (λ (y : _). map f (take i xs) ++ y ∷ []) (same ∙ ap f is) ∙ sym (map_more f xs i x lt))))
 
--- there is one of them where one is left
+-- if one of them is left, there is one
 pub some_left : {E Y : Type 0} (f : E → Y) (done left now : List E) (one : E) (all : List E) → left ≡ one ∷ now → map f done ++ map f left ≡ map f all → 0 < length all
 some_left f done left now one all next so_far =
     let whole : map f done ++ f one ∷ map f now ≡ map f all = ap (λ (t : List _). map f done ++ map f t) (sym next) ∙ so_far in

@@ -21,7 +21,7 @@ same_line : (o p : List ℕ) (m n : ℕ) (r s : List ℕ) (xs ys : List (List �
 same_line o p m n r s xs ys a b c d =
     ap (λ (q : List ℕ). made q m r xs) a ∙ ap (λ (k : ℕ). made p k r xs) b ∙ ap (λ (h : List ℕ). made p n h xs) c ∙ ap (λ (zs : List (List ℕ)). made p n s zs) d
 
--- words are one line's
+-- the words are those of one line only
 words_once : (l m : ChainLine) → IsChainLine l → IsChainLine m → chain_words l ≡ chain_words m → l ≡ m
 words_once l m is_l is_m e =
     let size = number_cut l.step.size m.step.size (after_size l) (after_size m) is_l.size is_m.size e in

@@ -1,4 +1,4 @@
--- Why a book is not opened, once a chain breaks or memory was refused.
+-- Why a book is not opened: a chain breaks, or memory runs out.
 use Rattle.std.proofs.Common.{◌<◌, ◌⊎◌, List, All, inl, inr, length, map, arith}
 use Rattle.std.proofs.lemmas.List.{length-map}
 use Rattle.tl_hash.specs.Bytes.{Digest}
@@ -16,7 +16,7 @@ chain_fault H trusts chains (BadName place) once listed named is = absurd is
 chain_fault H trusts chains (BadChain place link) once listed named is = (once, listed, named, is)
 chain_fault H trusts chains OutOfMemory once listed named is = inr is
 
--- memory was refused where there is a trust or a chain
+-- memory can run out only if there is a trust or a chain
 pub memory_refused : {E C : Type 0} (trusted : E → Trusted) (saved : C → SavedChain) (trusts : List E) (chains : List C)
     → (0 < length trusts) ⊎ (0 < length chains) → (0 < length (map trusted trusts)) ⊎ (0 < length (map saved chains))
 memory_refused trusted saved trusts chains (inl some) = inl (omega (arith, some, length-map trusts trusted))

@@ -37,7 +37,7 @@ set_others (d ∷ chains) zero origin c (inr later) other = inr later
 set_others (d ∷ chains) (suc place) origin c (inl same) other = inl same
 set_others (d ∷ chains) (suc place) origin c (inr later) other = inr (set_others chains place origin c later other)
 
--- a chain was taken from its place
+-- a chain was taken from its position
 pub took_one : (origin : List ℕ) (chains : List SavedChain) (place : ℕ) (taken : List Step) → slice_get chains place ≡ Some (saved_chain origin taken)
     → TakesChain origin chains (slice_set chains place (saved_chain origin [])) taken
 took_one origin chains place taken there = record {
@@ -149,7 +149,7 @@ entered_push trusted shown saved left now done entries t e taken entered once ta
 pub enters : (saved left : List SavedChain) (done all : List Trusted) (book : List Witnessed) → HasEntered saved left done book → done ≡ all → AllZip (IsKept saved) all book
 enters saved left done all book entered same = subst (λ (ts : List Trusted). AllZip (IsKept saved) ts book) same entered.kept
 
--- a chain breaks at this place
+-- a chain breaks at this position
 pub breaks_at : (H : Digest) (done : List SavedChain) (c : SavedChain) (rest all : List SavedChain) (place link : ℕ) → place ≡ length done → done ++ c ∷ rest ≡ all
     → All (λ d. IsChain H d.steps) done → IsFirstBreak H c.steps link → IsFirstBroken H all place link
 breaks_at H done c rest all place link here whole each breaks =

@@ -1,4 +1,4 @@
--- Laws of places of a book, which is seen through a view of what stands there.
+-- Laws of positions in a book, which is seen through a view of its elements.
 use Rattle.std.proofs.Common.{◌≡◌, ◌≢◌, ℕ, zero, suc, ◌+◌, ◌<◌, ◌≤◌, List, [], ◌∷◌, Some, refl, sym, ap, ◌∙◌, map, length, slice_get, slice_index_or, arith, ◌⊎◌, inl, inr}
 use Rattle.std.proofs.lemmas.Option.{slice_get-map, slice_get_read, slice_get_within, get_or_from_slice_get}
 use Rattle.std.proofs.lemmas.List.{length-map}
@@ -6,20 +6,20 @@ use Rattle.std.specs.Option.{option_map}
 use Rattle.tl_witness.specs.Witnessed.{Witnessed}
 use Rattle.tl_witness.specs.Book.{Placed, IsPlacedIn}
 
--- what is read at a place shows there
+-- what is read at a position shows there
 pub shows_at : {A B : Type 0} (f : A → B) (xs : List A) (n i : ℕ) (x : A) (y : B)
     → n ≡ length xs → i < n → x ≡ slice_index_or xs i x → f x ≡ y → slice_get (map f xs) i ≡ Some y
 shows_at f xs n i x y whole within read shown =
     slice_get-map f xs i ∙ (ap (option_map f) (slice_get_read xs n i x whole within read) ∙ ap Some shown)
 
--- what shows at a place stands there
+-- what shows at a position is there
 pub stands_at : {A B : Type 0} (f : A → B) (xs : List A) (i : ℕ) (y : B)
     → slice_get (map f xs) i ≡ Some y → (x : A) × (slice_get xs i ≡ Some x) × (f x ≡ y)
 stands_at f [] i y there = absurd (cc)
 stands_at f (x ∷ xs) zero y there = let e : f x ≡ y = cc in (x, refl, e)
 stands_at f (x ∷ xs) (suc i) y there = stands_at f xs i y there
 
--- nothing that shows below i + 1 is y, where nothing below i is, and at i it is not
+-- if nothing below i is y, and the one at i isn't, nothing below i + 1 is y
 pub not_below : {A B : Type 0} (f : A → B) (xs : List A) (n i : ℕ) (x : A) (y : B)
     → n ≡ length xs → i < n → x ≡ slice_index_or xs i x → ¬ (f x ≡ y)
     → ((j : ℕ) → j < i → slice_get (map f xs) j ≢ Some y) → (j : ℕ) → j < i + 1 → slice_get (map f xs) j ≢ Some y
@@ -35,7 +35,7 @@ not_below f xs n i x y whole within read differs below j less there =
     at_most : (j i : ℕ) → j ≤ i → (j < i) ⊎ (j ≡ i)
     at_most j i less = grind arith
 
--- y shows nowhere, where it shows at no place below one that is past the end
+-- if no position below the end shows y, none does
 pub nowhere : {A B : Type 0} (f : A → B) (xs : List A) (n i : ℕ) (y : B)
     → n ≡ length xs → n ≤ i → ((j : ℕ) → j < i → slice_get (map f xs) j ≢ Some y) → (j : ℕ) → slice_get (map f xs) j ≢ Some y
 nowhere f xs n i y whole past below j there =
@@ -43,7 +43,7 @@ nowhere f xs n i y whole past below j there =
     let long = length-map xs f in
     below j (omega arith) there
 
--- no place is of an origin that shows nowhere
+-- no position has an origin that shows nowhere
 pub no_place : {A : Type 0} (states : List A) (view : A → Witnessed) (origin_of : A → List ℕ) (origin : List ℕ)
     → ((k : A) → (view k).origin ≡ origin_of k)
     → ((i : ℕ) → slice_get (map origin_of states) i ≢ Some origin) → (placed : Placed) → ¬ (IsPlacedIn (map view states) origin placed)
@@ -52,7 +52,7 @@ no_place states view origin_of origin same nowhere placed is =
     let named : origin_of k.0 ≡ origin = sym (same k.0) ∙ (ap (λ (w : Witnessed). w.origin) k.2 ∙ is.1) in
     nowhere placed.place (slice_get-map origin_of states placed.place ∙ (ap (option_map origin_of) k.1 ∙ ap Some named))
 
--- where an origin shows, there is a place of it
+-- an origin that shows at a position is found
 pub place_at : {A : Type 0} (states : List A) (view : A → Witnessed) (origin_of : A → List ℕ) (i : ℕ) (origin : List ℕ) (k : A)
     → ((k : A) → (view k).origin ≡ origin_of k)
     → slice_get (map origin_of states) i ≡ Some origin → k ≡ slice_index_or states i k
@@ -64,7 +64,7 @@ place_at states view origin_of i origin k same shows read =
       same k ∙ (ap origin_of (sym here) ∙ it.2),
     )
 
--- what is read where an origin shows is of it
+-- what is read at a position that shows an origin is of it
 pub named_at : {A : Type 0} (states : List A) (origin_of : A → List ℕ) (i : ℕ) (origin : List ℕ) (k : A)
     → slice_get (map origin_of states) i ≡ Some origin → k ≡ slice_index_or states i k → origin_of k ≡ origin
 named_at states origin_of i origin k shows read =

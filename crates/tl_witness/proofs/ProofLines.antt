@@ -117,7 +117,7 @@ reads_more text left words rest hash done read room is e spelled utf8 = record {
       ∙ ap (λ (t : List ℕ). hash_lines done ++ t) (sym e) ∙ read.whole;
 }
 
--- so many hashes were read
+-- this many hashes were read
 pub record HasCounted (text : List ℕ) (count : ℕ) (left : List ℕ) : Type 0 where
   pub done : List (List ℕ)
   pub read : HasRead text done left
@@ -151,7 +151,7 @@ continued text left note done proof read is = let few = read.few in continue tex
 pub more_left : (text left note rest hash : List ℕ) (done proof : List (List ℕ)) → HasRead text done left → IsProofText text proof note → IsHash hash → left ≡ line (base64_text hash) ++ rest → length done < length proof
 more_left text left note rest hash done proof read proves is e = let c = continued text left note done proof read proves in more_of left note rest hash done proof c.more is e c.joined c.rest
 
--- where none follows, all were read
+-- if none follows, all were read
 all_of : (left note : List ℕ) (done proof more : List (List ℕ)) → HasNoHashLine left → All IsHash more → proof ≡ done ++ more → left ≡ hash_lines more ++ 10 ∷ note → done ≡ proof
 all_of left note done proof [] none each joined after = sym (joined ∙ append-nil done)
 all_of left note done proof (m ∷ more) none each joined after =

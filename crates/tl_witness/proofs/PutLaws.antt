@@ -1,4 +1,4 @@
--- A link is put behind those of its origin, or begins a new chain.
+-- A link is appended to those of its origin, or begins a new chain.
 use Rattle.std.proofs.Common.{◌≡◌, ◌≢◌, ◌<◌, ℕ, List, [], ◌∷◌, ◌++◌, Some, inl, inr, refl, ap, subst, ◌∙◌, map, length, slice_get, slice_index_or}
 use Rattle.std.specs.Prelude.{slice_set}
 use Rattle.std.proofs.lemmas.List.{map-set, map-append}

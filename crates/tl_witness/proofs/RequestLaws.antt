@@ -102,7 +102,7 @@ request_of bytes text words rest digits old proof note same e begins size is = r
       ∙ ap (λ (t : List ℕ). line (old_words (made old proof note)) ++ t) is.spelled ∙ sym (regroup (made old proof note));
 }
 
--- a request for memory is refused, for a request whose proof isn't empty
+-- allocation fails, for a request whose proof isn't empty
 pub parses_refused : {A : Type 0} → (bytes : List ℕ) (b : Body) (r : Result (AddRequest A) RequestFault) → IsErrAnd r (λ e. e ≡ OutOfMemory) → IsRequest bytes b → 0 < length b.proof → ParsesRequest bytes r
 parses_refused bytes b (Ok request) refused is some = absurd refused
 parses_refused {A = A} bytes b (Err fault) refused is some = subst (λ (f : RequestFault). ParsesRequest {A = A} bytes (Err f)) (sym refused) (b, is, some)

@@ -85,7 +85,7 @@ chains_only_grow H one last outs is run = go outs one last is run
 
 -- ---- whole books
 
--- nothing but the chain is another
+-- only the chain differs
 same_trust : (H : Digest) (out : Outcome) → IsChain H out.one.chain → Moves H out → IsLater H out.one out.one_after
 same_trust H out is (inl same) = record {
   origin = ap (λ (o : Witnessed). o.origin) same;
@@ -131,7 +131,7 @@ later_lawful H [] later is = subst (IsLawful H) (sym is) (All-nil (HasChain H))
 later_lawful H (one ∷ book) later is =
     subst (IsLawful H) (sym is.2) (All-cons (HasChain H) is.0 is.1 is.3.chain.0 (later_lawful H book is.1 is.4))
 
--- one place is later, and the others as they were
+-- one position has a later origin, and the others are as they were
 set_later : (H : Digest) (book : List Witnessed) (at : ℕ) (one after : Witnessed) → IsLawful H book → slice_get book at ≡ Some one
     → IsLater H one after → IsLaterBook H book (slice_set book at after)
 set_later H [] at one after lawful there is = absurd cc

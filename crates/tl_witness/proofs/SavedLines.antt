@@ -78,7 +78,7 @@ begins bytes saved count left words rest origin step read cut is =
     let next : left ≡ chain_line l ++ rest = cut ∙ ap (λ (t : List ℕ). t ++ 10 ∷ rest) is.spelled ∙ sym (line_of_words l rest) in
     begins_at read.lines bytes left rest l read.each read.whole next is.lawful
 
--- a request for memory is refused, of bytes that begin with a line
+-- allocation fails, for bytes that begin with a line
 pub reads_refused : {A : Type 0} → (bytes : List ℕ) (r : Result (Vec (String A × Vec (Link A) A) A) ChainFault) → IsErrAnd r (λ e. e ≡ OutOfMemory) → BeginsWithLine bytes → ReadsChain bytes r
 reads_refused bytes (Ok read) refused is = absurd refused
 reads_refused {A = A} bytes (Err fault) refused is = subst (λ (f : ChainFault). ReadsChain {A = A} bytes (Err f)) (sym refused) is
@@ -92,6 +92,6 @@ all_read bytes saved count [] read none = record {
 }
 all_read bytes saved count (b ∷ left) read none = absurd (let zero : length (b ∷ left) ≡ 0 = eqb-true (length (b ∷ left)) 0 (sym none) in omega (arith, zero))
 
--- less is left behind a line
+-- after a line less is left
 pub less_left : (left words rest : List ℕ) → left ≡ words ++ 10 ∷ rest → length rest < length left
 less_left left words rest cut = omega (arith, ap length cut, length-append words (10 ∷ rest))

@@ -6,7 +6,7 @@ use Rattle.tl_witness.specs.declared.request.RequestFault.TheVariants.{Malformed
 use Rattle.tl_witness.specs.Book.{Signed, IsSigned}
 use Rattle.tl_witness.specs.Inner.ReadSigned.{ReadsSigned}
 
--- where memory is the only other reason, the bytes are none
+-- if the only other reason is memory, the bytes are none
 pub signed_fault : (A : Type 0) (bytes : List ℕ) (IsMemory : Type 0) (fault : RequestFault)
     → ((fault ≡ OutOfMemory) ↔ IsMemory) → (¬ IsMemory → (signed : Signed) → ¬ (IsSigned bytes signed))
     → ReadsSigned {A = A} bytes (Err fault)

@@ -11,11 +11,11 @@ use Rattle.tl_witness.specs.Saver.{Saved}
 use Rattle.tl_witness.specs.Witnessed.{Witnessed}
 use Rattle.tl_witness.specs.Decide.{Asked, Outcome, Decides}
 
--- every origin's steps are a chain
+-- each origin's steps are a chain
 abbrev pub IsLawful : Digest → List Witnessed → Type 0
 IsLawful H book = All (λ one. IsChain H one.chain) book
 
--- a note whose text is a checkpoint, in parts
+-- a note whose text is a checkpoint: its text, its signature lines and the checkpoint
 pub record Signed : Type 0 where
   pub text : Bytes
   pub lines : List Signature
@@ -27,7 +27,7 @@ pub record IsSigned (bytes : Bytes) (signed : Signed) : Type 0 where
   pub head : IsHead signed.head
   pub spelled : signed.text ≡ checkpoint_text signed.head
 
--- what came of a request: the reply, and the saver and the book before and after
+-- the outcome of a request: the reply, and the saver and the book before and after
 pub record BookOutcome : Type 0 where
   pub status : ℕ
   pub body : Bytes
@@ -36,7 +36,7 @@ pub record BookOutcome : Type 0 where
   pub book : List Witnessed
   pub book_after : List Witnessed
 
--- the same, where this is the reply
+-- the outcome of a request with this reply
 abbrev pub book_outcome : {A : Type 0} → Reply A → Saved → Saved → List Witnessed → List Witnessed → BookOutcome
 book_outcome reply saved saved_after book book_after = record {
   status = reply.status;
@@ -52,16 +52,16 @@ abbrev pub RefusesAll : BookOutcome → ℕ → Type 0
 RefusesAll out status =
     (out.status ≡ status) × (out.body ≡ []) × (out.saved_after ≡ out.saved) × (out.book_after ≡ out.book)
 
--- one of a book, and its place there
+-- an origin of a book, and its position there
 pub record Placed : Type 0 where
   pub place : ℕ
   pub one : Witnessed
 
--- it stands at its place of the book, and is of this origin
+-- the book has this one at this position, and it is of this origin
 abbrev pub IsPlacedIn : List Witnessed → Bytes → Placed → Type 0
 IsPlacedIn book origin placed = (slice_get book placed.place ≡ Some placed.one) × (placed.one.origin ≡ origin)
 
--- what is asked of an origin
+-- what a request with this note asks at this time
 abbrev pub asked_of : Body → Signed → ℕ → Asked
 asked_of request signed time = record {
   old = request.old;
@@ -71,7 +71,7 @@ asked_of request signed time = record {
   time = time;
 }
 
--- what came of it at one place of the book, and at no other
+-- only the origin at this position may have changed, and this holds of the outcome for it
 abbrev pub ChangesAt : BookOutcome → Placed → (Outcome → Type 0) → Type 0
 ChangesAt out placed Decided =
     (after : Witnessed)
@@ -85,7 +85,7 @@ ChangesAt out placed Decided =
       one_after = after;
     })
 
--- the cases of a request, of which the first that applies decides
+-- the cases of a request, in order; the first that applies decides
 abbrev pub DecidesBody : Digest → Bytes → ℕ → BookOutcome → Type 0
 DecidesBody H body time out =
     UnlessSome (IsRequest body) (RefusesAll out 400) (λ request.

@@ -1,4 +1,4 @@
--- Links that a witness saved, as lines (a format of this project).
+-- The lines of links that a witness saved (a format of this project).
 use Rattle.std.specs.Prelude.{◌≡◌, ◌≢◌, ℕ, ◌≤◌, not, List, [], ◌∷◌, ◌++◌, length, All, map, filter, IsUtf8, bytes_eq}
 use Rattle.std.specs.List.{flat_map}
 use Rattle.tl_hash.specs.Bytes.{Bytes, IsHash}
@@ -6,12 +6,12 @@ use Rattle.tl_text.specs.Text.{line, number_text, base64_text, IsSize, IsOneLine
 use Rattle.tl_proof.specs.Acceptance.{Step}
 use Rattle.tl_witness.specs.Open.{SavedChain, saved_chain}
 
--- a step of the chain of an origin
+-- a step of an origin's chain
 pub record ChainLine : Type 0 where
   pub origin : Bytes
   pub step : Step
 
--- what has a line
+-- this step of this origin can be written as a line
 pub record IsChainLine (l : ChainLine) : Type 0 where
   pub origin : IsOneLine l.origin
   pub utf8 : IsUtf8 l.origin
@@ -20,25 +20,25 @@ pub record IsChainLine (l : ChainLine) : Type 0 where
   pub few : length l.step.proof ≤ 63
   pub hashes : All IsHash l.step.proof
 
--- hashes, each behind a space
+-- the hashes, each after a space
 abbrev pub spaced_hashes : List Bytes → Bytes
 spaced_hashes hashes = flat_map (λ hash. 32 ∷ base64_text hash) hashes
 
--- size, root, the number of hashes, the hashes, and the origin to the end of the line
+-- the size, the root, the number of hashes, the hashes, and the origin up to the end of the line
 abbrev pub chain_line : ChainLine → Bytes
 chain_line l =
     line (number_text l.step.size ++ 32 ∷ base64_text l.step.root ++ 32 ∷ number_text (length l.step.proof) ++ spaced_hashes l.step.proof ++ 32 ∷ l.origin)
 
--- lines, one after the other
+-- the lines, one after another
 abbrev pub chain_text : List ChainLine → Bytes
 chain_text lines = flat_map chain_line lines
 
--- bytes are these lines
+-- the bytes are these lines
 pub record IsChainText (bytes : Bytes) (lines : List ChainLine) : Type 0 where
   pub each : All IsChainLine lines
   pub spelled : bytes ≡ chain_text lines
 
--- the first lines are well formed, and no line follows them, though bytes do
+-- the bytes begin with `place` well-formed lines, and more bytes follow that begin with no such line
 pub record IsMalformedAt (bytes : Bytes) (place : ℕ) : Type 0 where
   pub before : List ChainLine
   pub rest : Bytes
@@ -48,11 +48,11 @@ pub record IsMalformedAt (bytes : Bytes) (place : ℕ) : Type 0 where
   pub more : rest ≢ []
   pub no_line : (l : ChainLine) (after : Bytes) → IsChainLine l → rest ≢ chain_line l ++ after
 
--- the others, without this one
+-- the list without this origin
 abbrev pub without : Bytes → List Bytes → List Bytes
 without origin others = filter (λ other. not (bytes_eq origin other)) others
 
--- the origins in the order of their first lines: that of the first line, and then the other lines' without it
+-- the origins in the order of their first lines
 abbrev pub origins : List ChainLine → List Bytes
 origins [] = []
 origins (first ∷ lines) = first.origin ∷ without first.origin (origins lines)

@@ -1,4 +1,4 @@
--- What cosigned checkpoints of one origin say of each other. H is the digest function.
+-- How two cosigned checkpoints of one origin are related. H is the digest function.
 use Rattle.std.specs.Prelude.{◌≡◌, ℕ, List, ◌∷◌, ◌++◌, length, map}
 use Rattle.tl_hash.specs.Bytes.{Bytes, Digest}
 use Rattle.tl_hash.specs.Tree.{tree_hash}
@@ -15,7 +15,7 @@ use Rattle.tl_witness.specs.Witnessed.{Witnessed}
 abbrev pub origins_of : List Witnessed → List Bytes
 origins_of book = map (λ one. one.origin) book
 
--- every origin's steps are a chain, and no origin stands there twice
+-- each origin's steps are a chain, and no origin is in the book twice
 pub record IsSound (H : Digest) (book : List Witnessed) : Type 0 where
   pub lawful : IsLawful H book
   pub once : ¬ (HasTwice (origins_of book))
@@ -32,11 +32,11 @@ pub record IsCosigned (H : Digest) (checkpoint : Head) (out : BookOutcome) : Typ
   pub answered : Answers H body time out
   pub status : out.status ≡ 200
 
--- the checkpoint's size and root are those of these entries
+-- these entries have the checkpoint's size and root
 abbrev pub IsHeadOf : Digest → List Bytes → Head → Type 0
 IsHeadOf H entries checkpoint = (checkpoint.size ≡ length entries) × (checkpoint.root ≡ tree_hash H entries)
 
--- by these links the chain of an origin grew from one book to a later one
+-- from one book to a later one, the origin's chain grew by these links
 pub record GrewBy (book later : List Witnessed) (origin : Bytes) (links : List Step) : Type 0 where
   pub place : ℕ
   pub one : Witnessed
@@ -45,8 +45,8 @@ pub record GrewBy (book later : List Witnessed) (origin : Bytes) (links : List S
   pub is_later : IsPlacedIn later origin (record { place = place; one = after })
   pub grew : after.chain ≡ one.chain ++ links
 
--- a run of a book in which two requests, the first before the second, were answered with 200 for one origin,
--- whatever came before, between and after
+-- in a run of a book two requests, the first before the second, were answered with 200 for the same origin, whatever
+-- came before, between and after
 pub record CosignsTwice (H : Digest) (first second : BookOutcome) (earlier later : Head) : Type 0 where
   pub book : List Witnessed
   pub last : List Witnessed

@@ -11,7 +11,8 @@ use Rattle.tl_witness.specs.Chain.{TreeHead, first_head, last_head}
 use Rattle.tl_witness.specs.Saver.{Saved, Keeps, Fails}
 use Rattle.tl_witness.specs.Witnessed.{Witnessed, with_step}
 
--- what is asked: the old size, the step to the new head, the text of the note and its signature lines, and the time
+-- what is asked: the old size, the step to the new tree head, the text of the note and its signature lines, and the
+-- time
 pub record Asked : Type 0 where
   pub old : ℕ
   pub step : Step
@@ -19,7 +20,7 @@ pub record Asked : Type 0 where
   pub lines : List Signature
   pub time : ℕ
 
--- what came of it: the reply, and the saver and the origin before and after
+-- the outcome: the reply, and the saver and the origin before and after
 pub record Outcome : Type 0 where
   pub status : ℕ
   pub body : Bytes
@@ -40,7 +41,7 @@ Refuses out status = (out.status ≡ status) × (out.body ≡ []) × Stays out
 abbrev pub Conflicts : Outcome → ℕ → Type 0
 Conflicts out size = (out.status ≡ 409) × (out.body ≡ line (number_text size)) × Stays out
 
--- a save failed: the reply is 500, and the origin stays
+-- a save failed: the reply is 500, and the origin is unchanged
 abbrev pub SaveFails : Outcome → Type 0
 SaveFails out = (out.status ≡ 500) × (out.body ≡ []) × Fails out.saved out.saved_after × (out.one_after ≡ out.one)
 
@@ -54,15 +55,15 @@ KeepsStep out size step =
 abbrev pub Attests : Outcome → Asked → Type 0
 Attests out asked = (out.status ≡ 200) × Cosigns asked.text asked.time out.one.cosigner out.body
 
--- the outcomes once the proof is accepted, from this last size: the cosigner may refuse this message or give no
--- bytes for it, the save fails, or the reply is 200
+-- the outcomes once the proof is accepted from this last size: 500 if the cosigner may refuse this message or return
+-- no bytes for it; 500 if the save failed; or 200
 abbrev pub Settles : Outcome → ℕ → Asked → Type 0
 Settles out size asked =
     (MayFailToCosign asked.text asked.time out.one.cosigner × Refuses out 500)
     ⊎ ((size < asked.step.size) × SaveFails out)
     ⊎ (Attests out asked × KeepsStep out size asked.step)
 
--- the cases from the last head on, of which the first that applies decides
+-- the cases once the note is open, in order; the first that applies decides
 abbrev pub DecidesFrom : Digest → TreeHead → Asked → Outcome → Type 0
 DecidesFrom H last asked out =
     Unless (asked.old ≤ asked.step.size) (Refuses out 400)
@@ -71,7 +72,7 @@ DecidesFrom H last asked out =
     (Unless (AcceptsConsistency H asked.step.proof asked.step.size asked.step.root last.size last.root) (Refuses out 422)
     (Settles out last.size asked))))
 
--- the same where the note is open to the origin's verifiers, and 403 else
+-- 403 if the note doesn't open with the origin's verifiers; else the cases from the chain's last tree head on
 abbrev pub Decides : Digest → Asked → Outcome → Type 0
 Decides H asked out =
     Unless (Opened out.one.verifiers asked.text asked.lines) (Refuses out 403) (DecidesFrom H (last_head (first_head H) out.one.chain) asked out)

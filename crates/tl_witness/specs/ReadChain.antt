@@ -11,11 +11,11 @@ use Rattle.tl_witness.specs.ChainLine.{ChainLine, IsChainLine, IsChainText, IsMa
 use Rattle.tl_witness.specs.ChainFields.{AreHashes, chain_words}
 use Rattle.tl_witness.specs.Open.{SavedChain, saved_chain}
 
--- what saved links say, whatever memory they are in
+-- what saved links state, whatever their allocator
 abbrev pub chains_shown : {A : Type 0} → List (String A × Vec (Link A) A) → List SavedChain
 chains_shown saved = map (λ c. saved_chain (string_bytes c.0) (map step_of (vec_items c.1))) saved
 
--- the bytes are lines of which these are the chains
+-- the bytes are lines, and these are their chains
 pub record AreChainsOf (bytes : Bytes) (saved : List SavedChain) : Type 0 where
   pub lines : List ChainLine
   pub text : IsChainText bytes lines
@@ -25,13 +25,14 @@ pub record AreChainsOf (bytes : Bytes) (saved : List SavedChain) : Type 0 where
 abbrev pub BeginsWithLine : Bytes → Type 0
 BeginsWithLine bytes = (l : ChainLine) × (after : Bytes) × IsChainLine l × (bytes ≡ chain_line l ++ after)
 
--- the chains of the lines that the bytes are, or the first line that is none; memory is asked for a line of a link
+-- the chains of the lines that the bytes are, or the first line that is malformed; memory is allocated only for the
+-- line of a link
 abbrev pub ReadsChain : {A : Type 0} → Bytes → Result (Vec (String A × Vec (Link A) A) A) ChainFault → Type 0
 ReadsChain bytes (Ok read) = AreChainsOf bytes (chains_shown (vec_items read))
 ReadsChain bytes (Err (Malformed place)) = IsMalformedAt bytes place
 ReadsChain bytes (Err OutOfMemory) = BeginsWithLine bytes
 
--- the words are those of this step of this origin
+-- these are the words of the line of this step of this origin
 pub record IsLineOf (words origin : Bytes) (step : Step) : Type 0 where
   pub lawful : IsChainLine (record { origin = origin; step = step })
   pub spelled : words ≡ chain_words (record { origin = origin; step = step })

@@ -9,14 +9,13 @@ use Rattle.tl_witness.specs.Decide.{Asked, Outcome, Refuses, Decides}
 use Rattle.tl_witness.specs.Answers.{Answers}
 use Rattle.tl_witness.specs.Book.{BookOutcome}
 
--- a chain that grew from a chain: what came after is linked from where the first led
+-- the later chain begins with the chain, and the steps added are linked from its last tree head
 abbrev pub IsLaterChain : Digest → List Step → List Step → Type 0
 IsLaterChain H chain later =
     IsChain H later
     × ((more : List Step) × (later ≡ chain ++ more) × IsLinked H (last_head (first_head H) chain) more)
 
--- what came of one request after another to one origin, each decided by the cases of a request, or 500 with nothing
--- changed
+-- one request to an origin after another: each is decided by the cases of a request, or gets 500 and changes nothing
 abbrev pub IsRun : Digest → Witnessed → List Outcome → Witnessed → Type 0
 IsRun H one [] last = last ≡ one
 IsRun H one (out ∷ outs) last =
@@ -24,7 +23,7 @@ IsRun H one (out ∷ outs) last =
     × ((asked : Asked) × MadeOfHashes asked.step × (Decides H asked out ⊎ Refuses out 500))
     × IsRun H out.one_after outs last
 
--- what came of one request after another to a whole book
+-- one request to the whole book after another
 abbrev pub IsBookRun : Digest → List Witnessed → List BookOutcome → List Witnessed → Type 0
 IsBookRun H book [] last = last ≡ book
 IsBookRun H book (out ∷ outs) last =
@@ -32,14 +31,14 @@ IsBookRun H book (out ∷ outs) last =
     × ((body : Bytes) × (time : ℕ) × Answers H body time out)
     × IsBookRun H out.book_after outs last
 
--- one origin, later: trusted and cosigned for as before, with a chain that grew
+-- the same origin later: its verifiers and cosigner are the same, and its chain has grown
 pub record IsLater (H : Digest) (one later : Witnessed) : Type 0 where
   pub origin : later.origin ≡ one.origin
   pub verifiers : later.verifiers ≡ one.verifiers
   pub cosigner : later.cosigner ≡ one.cosigner
   pub chain : IsLaterChain H one.chain later.chain
 
--- each place of the later book is that of the earlier one, later
+-- each origin of the later book is that of the earlier one, later
 abbrev pub IsLaterBook : Digest → List Witnessed → List Witnessed → Type 0
 IsLaterBook H [] later = later ≡ []
 IsLaterBook H (one ∷ book) later = (after : Witnessed) × (rest : List Witnessed) × (later ≡ after ∷ rest) × IsLater H one after × IsLaterBook H book rest

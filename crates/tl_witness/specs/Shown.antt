@@ -5,7 +5,8 @@ use Rattle.tl_proof.specs.Acceptance.{Step}
 use Rattle.tl_witness.specs.declared.origin_state.Origin.{Origin}
 use Rattle.tl_witness.specs.Witnessed.{Witnessed}
 
--- an origin whose boxes have these keys, with this chain: its cosigner signs under the name that was taken in
+-- an origin whose verifiers and cosigner have these keys, with this chain; its cosigner signs under the name that it
+-- had when the book was opened
 abbrev pub witnessed : {A X Y : Type 0} {F : X → Type 0} {G : Y → Type 0} → Origin A X Y F G → List Key → SigningKey → List Step → Witnessed
 witnessed o verifiers cosigner chain = record {
   origin = string_bytes o.name;

@@ -1,4 +1,4 @@
-//! The book of a witness: what it keeps of each origin.
+//! The book of a witness: what it keeps of every origin.
 
 ghost use Rattle.std.specs.Prelude.{◌≡◌, IfOk, MatchOption, OnErr, map};
 ghost use Rattle.tl_proof.specs.Acceptance.{step_of};
@@ -16,7 +16,8 @@ use tl_hash::TreeHash;
 use tl_note::{Signer, Verifier};
 use tl_proof::Link;
 
-/// What a witness keeps of every origin: whom it trusts, who cosigns, and the links that it has accepted.
+/// Everything that a witness keeps: for each origin the log's verifiers, the cosigner, and the links that it has
+/// accepted.
 #[derive(Drop)]
 pub struct Book<T: TreeHash, A: Allocator + Copy> {
     pub(crate) tools: Tools<T, A>,
@@ -43,11 +44,11 @@ impl<T: TreeHash, A: Allocator + Copy> Shown for Book<T, A> {
 }
 
 impl<T: TreeHash, A: Allocator + Copy> Book<T, A> {
-    /// Decides an add-checkpoint request (C2SP tlog-witness, "add-checkpoint") at this time, in seconds since the
-    /// Unix epoch: 400 for no request or no checkpoint; 404 for an unknown origin; 403 where the note isn't open to
-    /// its verifiers; 400 where the old size is above the new; 409 with the last size where the old size, or the root
-    /// at an equal size, differs; 422 where the proof isn't accepted; 500 without a signature or a save; else 200 with
-    /// a cosignature line. It fails only where a growth was refused.
+    /// Decides an add-checkpoint request at `time`, in Unix seconds (C2SP tlog-witness, "add-checkpoint"). The first
+    /// case that applies is the status: 400 for no request or no checkpoint; 404 for an unknown origin; 403 if the
+    /// note doesn't open with its verifiers; 400 if the old size exceeds the new; 409 with the last size if the old
+    /// size, or the root at an equal size, differs; 422 if the proof isn't accepted; 500 without signature or save;
+    /// else 200 with a cosignature line. It fails if memory runs out.
     pub fn try_add<S: Saver>(
         &mut self,
         body: &[u8],
@@ -74,9 +75,8 @@ impl<T: TreeHash, A: Allocator + Copy> Book<T, A> {
             .answer(tools, &mut state.chain, found.offer, time, saver)
     }
 
-    /// Answers an add-checkpoint request as `try_add` decides it, and with 500 where that asked for memory which
-    /// was refused. For a larger size the link is saved once, before it is kept; any reply but 200 leaves the book
-    /// unchanged.
+    /// Answers an add-checkpoint request as `try_add` decides it, or with 500 if allocation fails. For a larger size
+    /// the link is saved once, before it is kept. Any reply but 200 leaves the book unchanged.
     pub fn add<S: Saver>(&mut self, body: &[u8], time: u64, saver: &mut S) -> Reply<A>
         ensures { Answers T.digest_of body.now time
             (book_outcome result (S.saved saver.old) (S.saved saver.new)
@@ -88,7 +88,7 @@ impl<T: TreeHash, A: Allocator + Copy> Book<T, A> {
         }
     }
 
-    /// The links of an origin, in order. None where the origin is unknown.
+    /// Returns the links of an origin, in order, or `None` if the origin is unknown.
     pub fn chain(&self, origin: &str) -> Option<&[Link<A>]>
         ensures { MatchOption result ((placed : Placed)
             → ¬ (IsPlacedIn (⟦<Book<T, A> as Shown>⟧.shown self.now) origin.now placed))

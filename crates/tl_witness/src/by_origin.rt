@@ -1,4 +1,4 @@
-//! Finds the place of an origin in a list, in time that grows with the logarithm of the list's length.
+//! Finding the position of an origin in a list, in time that grows with the logarithm of the list's length.
 
 ghost use Rattle.std.specs.Prelude.{◌≡◌, None, OnErr, OnOk, ◌≢◌, ◌<◌, ℕ, All, IfNone, IfOk, IfSome, MatchOption, Some, length, map, slice_get};
 ghost use Rattle.tl_hash.specs.Bytes.{Bytes};
@@ -9,14 +9,14 @@ ghost use Rattle.tl_witness.specs.Open.{HasTwice, IsFirstNot};
 use std::alloc::{AllocError, Allocator};
 use std::collections::BTreeMap;
 
-/// Which place each origin has. A contract sees it by `index_of`, the function from an origin to its place.
+/// Maps each origin to its position. A contract sees it by `index_of`, the function from an origin to its position.
 #[derive(Drop)]
 pub(crate) struct ByOrigin<A: Allocator> {
     places: BTreeMap<String<A>, usize, A>,
 }
 
 impl<A: Allocator + Copy> ByOrigin<A> {
-    /// No origin has a place. It takes no memory.
+    /// Returns an empty map. It allocates nothing.
     pub(crate) fn new(alloc: A) -> Self
         ensures { (origin : Bytes) → index_of result origin ≡ None }
     {
@@ -25,14 +25,14 @@ impl<A: Allocator + Copy> ByOrigin<A> {
         }
     }
 
-    /// The place of an origin.
+    /// Returns the position of an origin, or `None` if it has none.
     pub(crate) fn find(&self, origin: &str) -> Option<usize>
         ensures { result ≡ index_of self.now origin.now }
     {
         self.places.get(origin).copied()
     }
 
-    /// Gives an origin this place, and no longer another. It fails only where a growth was refused, and then changes
+    /// Gives an origin this position, in place of an earlier one. It fails only if allocation fails, and then changes
     /// nothing.
     pub(crate) fn add(&mut self, alloc: A, origin: &str, place: usize) -> Result<(), AllocError>
         ensures added { OnOk result
@@ -45,18 +45,18 @@ impl<A: Allocator + Copy> ByOrigin<A> {
     }
 }
 
-/// What has an origin.
+/// Something that has an origin.
 pub(crate) trait OfOrigin {
     ghost use Rattle.std.specs.Prelude.{List, ℕ};
 
     ghost origin_of: { Self → Bytes };
 
-    /// Its origin.
+    /// Returns its origin.
     fn origin(&self) -> &str
         ensures { result.now ≡ origin_of self.now };
 }
 
-/// A place of what has this origin.
+/// Returns the position of an item with this origin, or `None` if there is none.
 pub(crate) fn place_of<N: OfOrigin>(list: &[N], origin: &str) -> Option<usize>
     ensures room { IfSome result (λ i. i < length list.now) }
     ensures found { IfSome result (λ i. slice_get (map N.origin_of list.now) i ≡ Some origin.now) }
@@ -71,8 +71,8 @@ pub(crate) fn place_of<N: OfOrigin>(list: &[N], origin: &str) -> Option<usize>
     None
 }
 
-/// A place of what has this origin. The index is tried first, and what it gives is looked at. Where it gives
-/// none, the whole list is looked through, so the answer is right for any index.
+/// Returns the position of an item with this origin, or `None` if there is none. It tries the map first and checks
+/// the position that it finds. If that isn't right it searches the whole list, so the answer is right for any map.
 pub(crate) fn place_by<N: OfOrigin, A: Allocator + Copy>(
     places: &ByOrigin<A>,
     list: &[N],
@@ -91,8 +91,8 @@ pub(crate) fn place_by<N: OfOrigin, A: Allocator + Copy>(
     place_of(list, origin)
 }
 
-/// The places of a list's origins, or None where an origin stands there twice. It fails only where a growth was
-/// refused, and never for an empty list.
+/// Returns the position of each origin of a list, or `None` if an origin is in the list twice. It fails only if
+/// allocation fails, and never for an empty list.
 pub(crate) fn places_in<N: OfOrigin, A: Allocator + Copy>(
     alloc: A,
     list: &[N],
@@ -113,7 +113,7 @@ pub(crate) fn places_in<N: OfOrigin, A: Allocator + Copy>(
     Ok(Some(places))
 }
 
-/// The first of a list whose origin has no place.
+/// Returns the position of the first item whose origin isn't in the map.
 pub(crate) fn first_without<N: OfOrigin, A: Allocator + Copy>(
     places: &ByOrigin<A>,
     list: &[N],

@@ -14,8 +14,8 @@ use std::marker::Model;
 use tl_hash::{Hash, TreeHash, empty_hash};
 use tl_proof::{Link, check_tree};
 
-/// The links of one origin, each accepted from the one before, and the first from size 0 and the hash of no bytes.
-/// A contract sees the steps that they say.
+/// The links of one origin. Each is accepted from the one before, and the first from size 0 and the hash of no bytes.
+/// A contract sees the steps that they state.
 #[derive(Drop)]
 pub(crate) struct Chain<T: TreeHash, A: Allocator> {
     tree: T,
@@ -42,7 +42,7 @@ pub(crate) enum KeepFault {
 }
 
 impl<T: TreeHash, A: Allocator + Copy> Chain<T, A> {
-    /// The chain of no links.
+    /// Returns a chain of no links.
     pub(crate) fn new(alloc: A, tree: T) -> Self
         ensures { result ≡ [] }
     {
@@ -52,21 +52,21 @@ impl<T: TreeHash, A: Allocator + Copy> Chain<T, A> {
         }
     }
 
-    /// The links, in order.
+    /// Returns the links, in order.
     pub(crate) fn links(&self) -> &[Link<A>]
         ensures { map step_of result.now ≡ self.now }
     {
         self.links.as_slice()
     }
 
-    /// Shows that the links are a chain. It does nothing.
+    /// Shows to the prover that the links are a chain. It does nothing.
     pub(crate) fn is_chain(&self)
         ensures { IsChain T.digest_of self.now }
     {
         let _ = &self.links;
     }
 
-    /// The size and root that the chain has reached.
+    /// Returns the size and root that the chain has reached.
     pub(crate) fn head(&self) -> (u64, Hash)
         ensures size { result.0 ≡ (last_head (first_head T.digest_of) self.now).size }
         ensures root { result.1 ≡ (last_head (first_head T.digest_of) self.now).root }
@@ -77,7 +77,7 @@ impl<T: TreeHash, A: Allocator + Copy> Chain<T, A> {
         }
     }
 
-    /// Whether the link is accepted from the size and root that the chain has reached.
+    /// Reports whether the link is accepted from the size and root that the chain has reached.
     pub(crate) fn accepts(&self, link: &Link<A>) -> bool
         ensures { IsTrue result
             ↔ Follows T.digest_of (last_head (first_head T.digest_of) self.now) (step_of link.now) }
@@ -93,7 +93,7 @@ impl<T: TreeHash, A: Allocator + Copy> Chain<T, A> {
         )
     }
 
-    /// Saves the link and then keeps it. The growth is reserved first, so nothing fails after the save.
+    /// Saves the link and then keeps it. Memory is reserved first, so nothing fails after the save.
     pub(crate) fn keep<S: Saver>(
         &mut self,
         origin: &str,
@@ -122,7 +122,7 @@ impl<T: TreeHash, A: Allocator + Copy> Chain<T, A> {
     }
 }
 
-// Shows that each of these is a hash. It changes nothing.
+// Shows to the prover that each of these is a hash. It changes nothing.
 fn are_hashes(hashes: &[Hash])
     ensures { All HasHashLength hashes.now }
 {
@@ -131,7 +131,7 @@ fn are_hashes(hashes: &[Hash])
     }
 }
 
-// Shows that a link is made of hashes. It changes nothing.
+// Shows to the prover that a link is made of hashes. It changes nothing.
 fn is_of_hashes<A: Allocator>(link: &Link<A>)
     ensures { MadeOfHashes (step_of link.now) }
 {
@@ -139,7 +139,7 @@ fn is_of_hashes<A: Allocator>(link: &Link<A>)
     are_hashes(link.proof.as_slice());
 }
 
-// The first of these links that isn't accepted from the one before.
+// Returns the position of the first link that isn't accepted from the one before.
 fn first_break<T: TreeHash, A: Allocator>(tree: T, links: &[Link<A>]) -> Option<usize>
     ensures { MatchOption result (IsChain T.digest_of (map step_of links.now))
         (IsFirstBreak T.digest_of (map step_of links.now)) }
@@ -166,7 +166,7 @@ fn first_break<T: TreeHash, A: Allocator>(tree: T, links: &[Link<A>]) -> Option<
 }
 
 impl<T: TreeHash, A: Allocator> Chain<T, A> {
-    /// The chain of these links; else the place of the first that isn't accepted from the one before.
+    /// Returns the chain of these links, or the position of the first link that isn't accepted from the one before.
     pub(crate) fn from_links(tree: T, links: Vec<Link<A>, A>) -> Result<Self, usize>
         ensures ok { IfOk result (λ chain.
             (chain ≡ map step_of links.items) × IsChain T.digest_of (map step_of links.items)) }

@@ -1,4 +1,4 @@
-//! The fields of a chain line. Each reader takes exactly what has that spelling.
+//! The fields of a chain line. Each reader accepts exactly the one spelling of its field.
 
 ghost use Rattle.std.specs.Prelude.{◌≡◌, IfOk, IsUtf8, List, MatchOption};
 ghost use Rattle.tl_hash.specs.Bytes.{Bytes, IsHash};
@@ -13,7 +13,7 @@ use tl_hash::Hash;
 use tl_proof::HashList;
 use tl_text::{is_one_line, parse_hash, parse_size};
 
-// A number below 2^63 and a space, and what follows.
+// Reads a number below 2^63 and the space after it, and returns it with the rest.
 fn number_field(text: &str) -> Option<(u64, &str)>
     ensures { MatchOption result (HasNoNumber text.now)
         (λ r. IsSize r.0 × (text.now ≡ field (number_text r.0) r.1.now)) }
@@ -27,7 +27,7 @@ fn number_field(text: &str) -> Option<(u64, &str)>
     Some((number, rest))
 }
 
-// A hash and a space, and what follows.
+// Reads a hash in base64 and the space after it, and returns it with the rest.
 fn hash_field(text: &str) -> Option<(Hash, &str)>
     ensures { MatchOption result (HasNoHash text.now)
         (λ r. IsHash r.0 × (text.now ≡ field (base64_text r.0) r.1.now) × IsUtf8 r.1.now) }
@@ -41,7 +41,7 @@ fn hash_field(text: &str) -> Option<(Hash, &str)>
     Some((hash, rest))
 }
 
-// What follows so many hashes, each with a space behind it.
+// Returns what follows `count` hashes, each with a space after it.
 fn skip_hashes(count: usize, text: &str) -> Option<&str>
     ensures { MatchOption result (HasNoHashes count text.now)
         (λ rest. HasHashes count text.now rest.now × IsUtf8 rest.now) }
@@ -56,7 +56,7 @@ fn skip_hashes(count: usize, text: &str) -> Option<&str>
     Some(left)
 }
 
-// The hashes of a text that begins with so many, each with a space behind it.
+// Reads the `count` hashes, each with a space after it, that the text begins with.
 pub(crate) fn read_hashes<A: Allocator>(
     alloc: A,
     count: usize,
@@ -79,7 +79,7 @@ pub(crate) fn read_hashes<A: Allocator>(
     Ok(HashList::from_vec(hashes))
 }
 
-/// The fields of a chain line. The hashes of the proof stand in front of `hashes`.
+/// The fields of a chain line. `hashes` begins with the hashes of the proof.
 #[derive(Clone, Copy)]
 pub(crate) struct Fields<'a> {
     pub(crate) size: u64,
@@ -89,7 +89,7 @@ pub(crate) struct Fields<'a> {
     pub(crate) origin: &'a str,
 }
 
-/// Cuts the words of a chain line, which is the line without its newline. It takes no memory.
+/// Cuts a chain line, given without its newline, into its fields. It allocates nothing.
 pub(crate) fn cut_fields(words: &str) -> Option<Fields<'_>>
     ensures { MatchOption result (IsNoChainLine words.now) (ShowsFields words.now) }
 {

@@ -1,4 +1,4 @@
-//! The line of a link that was accepted (a format of this project, for savers).
+//! The line of an accepted link (a format of this project, for savers).
 
 ghost use Rattle.std.specs.Prelude.{◌≡◌, ◌++◌, IfOk, OnOk, string_bytes};
 ghost use Rattle.tl_proof.specs.Acceptance.{step_of};
@@ -10,7 +10,7 @@ use std::alloc::{AllocError, Allocator};
 use tl_hash::Hash;
 use tl_proof::Link;
 
-// Appends the hashes, each behind a space.
+// Appends the hashes, each with a space before it.
 fn push_hashes<A: Allocator>(out: &mut String<A>, hashes: &[Hash]) -> Result<(), AllocError>
     ensures { OnOk result
         (string_bytes out.new ≡ string_bytes out.old ++ spaced_hashes hashes.now) }
@@ -22,9 +22,9 @@ fn push_hashes<A: Allocator>(out: &mut String<A>, hashes: &[Hash]) -> Result<(),
     Ok(())
 }
 
-/// The line of a link of an origin: the size, the root, the number of hashes of the proof, these hashes, and the
-/// origin, with spaces between, and a newline. Sizes are decimal, hashes base64. It fails only where a growth was
-/// refused.
+/// Returns the line of a link of an origin: the size, the root, the number of hashes of the proof, these hashes and
+/// the origin, separated by spaces, and a newline. Numbers are decimal, hashes base64. It fails only if allocation
+/// fails.
 pub fn write_chain_line<A: Allocator, B: Allocator>(
     alloc: A,
     origin: &str,

@@ -1,4 +1,4 @@
-//! Reads the links that a witness saved, from their lines.
+//! Reading the links that a witness saved from their lines.
 
 ghost use Rattle.std.specs.Prelude.{◌≡◌, ◌==◌, ◌++◌, ◌∷◌, IfOk, MatchOption, OnOk, position};
 ghost use Rattle.tl_hash.specs.Bytes.{Bytes};
@@ -18,10 +18,10 @@ use tl_proof::Link;
 /// Why saved links aren't read.
 #[derive(Clone, Copy, Debug, PartialEq, Eq, Error)]
 pub enum ChainFault {
-    /// This line, counted from 0, is the first that is no line of a link.
+    /// This line, counted from 0, is the first that isn't the line of a link.
     #[error("line {0} is malformed")]
     Malformed(u64),
-    /// A growth was refused.
+    /// Allocation failed.
     #[error("out of memory")]
     OutOfMemory,
 }
@@ -36,14 +36,14 @@ impl From<AllocError> for ChainFault {
     }
 }
 
-// The place of the first newline.
+// Returns the position of the first newline.
 fn first_newline(bytes: &[u8]) -> Option<usize>
     ensures { result ≡ position (λ byte. byte == 10) bytes.now }
 {
     bytes.iter().position(|byte| *byte == b'\n')
 }
 
-// The first line of bytes, without its newline, and what follows it.
+// Returns the first line, without its newline, and what follows it.
 fn cut_line(bytes: &[u8]) -> Option<(&str, &[u8])>
     ensures { MatchOption result (HasNoLine bytes.now)
         (λ r. IsWithout 10 r.0.now × (bytes.now ≡ r.0.now ++ 10 ∷ r.1.now)) }
@@ -57,7 +57,7 @@ fn cut_line(bytes: &[u8]) -> Option<(&str, &[u8])>
     Some((words, &bytes[end + 1..]))
 }
 
-// The link of a line's fields.
+// Returns the link that a line's fields state.
 fn link_of<A: Allocator>(alloc: A, fields: &Fields<'_>) -> Result<Link<A>, AllocError>
     requires { (words : Bytes) × ShowsFields words fields.now }
     ensures { IfOk result (λ link. (words : Bytes)
@@ -71,7 +71,7 @@ fn link_of<A: Allocator>(alloc: A, fields: &Fields<'_>) -> Result<Link<A>, Alloc
     })
 }
 
-// Adds a link behind those of its origin, whose place the index has.
+// Appends a link to those of its origin, whose position the map has, or begins a new chain.
 fn put_link<A: Allocator + Copy>(
     alloc: A,
     chains: &mut Vec<(String<A>, Vec<Link<A>, A>), A>,
@@ -101,10 +101,10 @@ fn put_link<A: Allocator + Copy>(
     Ok(())
 }
 
-/// The links that these bytes say, one on each line as `write_chain_line` writes it: each origin, in the order of the
-/// first lines, with its links in order. `Malformed` names the first line that isn't written so; the last one too ends
-/// with a newline. Memory is asked for after the first line is found to be one. The time grows with the bytes, and
-/// with the logarithm of the number of origins.
+/// Reads links, one on each line as `write_chain_line` writes it. Returns each origin with its links in order; the
+/// origins are in the order of their first lines. `Malformed` has the number of the first line that isn't written so;
+/// the last line must end with a newline, too. `OutOfMemory` comes only if the first line is one of a link. The time
+/// grows with the number of bytes and the logarithm of the number of origins.
 pub fn read_chain<A: Allocator + Copy>(
     alloc: A,
     bytes: &[u8],

@@ -10,7 +10,7 @@ use tl_checkpoint::cosignature_line_named;
 use tl_hash::TreeHash;
 use tl_note::{SignFault, Signer};
 
-/// The digest function, and where memory comes from. `global` is for the cosigner.
+/// The digest function and the allocators. The cosigner allocates from `global`.
 #[derive(Clone, Copy)]
 pub(crate) struct Tools<T: TreeHash, A: Allocator + Copy> {
     pub(crate) tree: T,
@@ -19,7 +19,7 @@ pub(crate) struct Tools<T: TreeHash, A: Allocator + Copy> {
 }
 
 impl<T: TreeHash, A: Allocator + Copy> Tools<T, A> {
-    /// These tools.
+    /// Returns these tools.
     pub(crate) fn new(tree: T, alloc: A, global: Global) -> Tools<T, A>
         ensures { result ≡ record { tree = tree; alloc = alloc; global = global } }
     {
@@ -31,14 +31,14 @@ impl<T: TreeHash, A: Allocator + Copy> Tools<T, A> {
     }
 }
 
-/// A name that is a key's name.
+/// A valid key name.
 #[derive(Drop)]
 pub(crate) struct KeyName<A: Allocator> {
     pub(crate) text: String<A>,
     ghost lawful: { IsKeyName (string_bytes text) } by { Prim.hlevel props },
 }
 
-// The name of a signer, copied. It fails only where a growth was refused.
+// Returns a copy of the signer's name. It fails only if allocation fails.
 pub(crate) fn name_of<A: Allocator>(
     alloc: A,
     signer: &Box<dyn Signer>,
@@ -50,8 +50,8 @@ pub(crate) fn name_of<A: Allocator>(
     Ok(KeyName { text })
 }
 
-/// The line by which a signer attests the text at this time, under the name that it had when it was taken in. None
-/// where it refused the message or gave no bytes. It fails only where a growth was refused.
+/// Returns the line by which a signer cosigns the text at this time, under the name that it had when the book was
+/// opened. It is `None` if the signer refused the message or returned no bytes. It fails only if allocation fails.
 pub(crate) fn cosign<T: TreeHash, A: Allocator + Copy>(
     tools: Tools<T, A>,
     signer: &Box<dyn Signer>,

@@ -1,5 +1,4 @@
-//! From the body of a request to the place of its origin. Nothing here waits, and nothing of what is kept is looked
-//! at.
+//! Finding the origin that a request is for. Nothing here waits, and no chain is read.
 
 ghost use Rattle.std.specs.Prelude.{◌≡◌, ℕ, map};
 ghost use Rattle.tl_witness.specs.Book.{asked_of};
@@ -14,8 +13,8 @@ use std::alloc::Allocator;
 use tl_note::NoteView;
 use tl_proof::Link;
 
-/// What a request asks of its origin, read: the size that the client believes was cosigned last, the link from
-/// there to the checkpoint, and the note that the checkpoint stands in. No signature is verified.
+/// What a request asks of its origin: the size that the client believes was cosigned last, the link from there to the
+/// checkpoint, and the note with the checkpoint. No signature is verified yet.
 #[derive(Drop)]
 pub(crate) struct Offer<'m, A: Allocator> {
     pub(crate) old: u64,
@@ -23,25 +22,25 @@ pub(crate) struct Offer<'m, A: Allocator> {
     pub(crate) note: NoteView<'m, A>,
 }
 
-/// The place of an origin, and what is asked of it.
+/// The position of an origin, and what is asked of it.
 #[derive(Drop)]
 pub(crate) struct Found<'m, A: Allocator> {
     pub(crate) place: usize,
     pub(crate) offer: Offer<'m, A>,
 }
 
-/// Why a body leads to no place.
+/// Why a request has no origin.
 #[derive(Clone, Copy)]
 pub(crate) enum Unfound {
-    /// It is no request, or its note is no checkpoint.
+    /// The body is no request, or its note is no checkpoint.
     Malformed,
-    /// Its origin is none of these.
+    /// The origin is unknown.
     Unknown,
-    /// A growth was refused.
+    /// Allocation failed.
     OutOfMemory,
 }
 
-// What a request asks, whose note is this signed checkpoint.
+// Returns what a request asks whose note is this signed checkpoint.
 fn offer_of<'m, A: Allocator>(
     request: AddRequest<'m, A>,
     signed: SignedCheckpoint<'m, A>,
@@ -59,8 +58,8 @@ fn offer_of<'m, A: Allocator>(
     Offer { old, link, note }
 }
 
-/// Reads a request and the checkpoint in its note, and finds the place of the checkpoint's origin (C2SP tlog-witness,
-/// "add-checkpoint").
+/// Reads a request and the checkpoint in its note, and finds the position of the checkpoint's origin (C2SP
+/// tlog-witness, "add-checkpoint").
 pub(crate) fn find_origin<'m, N: OfOrigin, A: Allocator + Copy>(
     alloc: A,
     places: &ByOrigin<A>,

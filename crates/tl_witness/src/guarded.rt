@@ -40,15 +40,15 @@ impl<T: TreeHash, A: Allocator> Grows for Chain<T, A> {
     ghost grows = { λ before after. IsPrefix before after };
 }
 
-/// One origin, and the links that the witness accepted for it, behind a lock. They begin with those that were
-/// handed in.
+/// One origin, with the links that the witness accepted for it behind a lock. They begin with those that the lock was
+/// made with.
 #[derive(Drop)]
 pub(crate) struct Guarded<T: TreeHash, A: Allocator> {
     pub(crate) origin: Origin<A>,
     pub(crate) chain: Lock<Chain<T, A>>,
 }
 
-/// What contracts see of it: what was handed in.
+/// What contracts see of a guarded origin: the origin and the links with which it was made.
 pub(crate) trait ShownGuarded {
     ghost use Rattle.tl_witness.specs.Witnessed.{Witnessed};
 
@@ -74,7 +74,7 @@ impl<T: TreeHash, A: Allocator> OfOrigin for Guarded<T, A> {
     }
 }
 
-// At most so many links from this place on.
+// Returns the links from position `from` on, at most `most` of them.
 fn part_of<A: Allocator>(links: &[Link<A>], from: u64, most: u64) -> &[Link<A>]
     ensures { map step_of result.now ≡ take most (drop from (map step_of links.now)) }
 {
@@ -89,7 +89,7 @@ fn part_of<A: Allocator>(links: &[Link<A>], from: u64, most: u64) -> &[Link<A>]
     &rest[..most as usize]
 }
 
-// Copies of links, in order. It fails only where a growth was refused.
+// Returns copies of the links, in order. It fails only if allocation fails.
 fn copy_links<A: Allocator + Copy, B: Allocator>(
     alloc: A,
     links: &[Link<B>],
@@ -104,7 +104,7 @@ fn copy_links<A: Allocator + Copy, B: Allocator>(
 }
 
 impl<T: TreeHash, A: Allocator> Guarded<T, A> {
-    /// The origin of a book, and its links behind a lock.
+    /// Puts the links of an origin behind a lock.
     pub(crate) fn new(state: OriginState<T, A>) -> Self
         ensures { ⟦<Guarded<T, A> as ShownGuarded>⟧.shown_guarded result
             ≡ ⟦<OriginState<T, A> as ShownState>⟧.shown_state state }
@@ -119,8 +119,8 @@ impl<T: TreeHash, A: Allocator> Guarded<T, A> {
 }
 
 impl<T: TreeHash, A: Allocator + Copy> Guarded<T, A> {
-    // Decides a request for this origin in one turn, and tells what the turn did: the chain that it put back is the
-    // decision's.
+    // Decides a request for this origin in one turn of the lock. Also returns what the turn did: the chain that it
+    // put back is the one that the decision leaves.
     fn decide<R: Wait, S: Saver>(
         &self,
         rt: &R,
@@ -146,8 +146,8 @@ impl<T: TreeHash, A: Allocator + Copy> Guarded<T, A> {
         (reply, change)
     }
 
-    /// Decides a request for this origin, from what the lock has when its turn comes. It fails only where a growth
-    /// was refused, with nothing changed.
+    /// Decides a request for this origin once its turn at the lock has come. It fails only if allocation fails, and
+    /// then nothing has changed.
     pub(crate) fn answer<R: Wait, S: Saver>(
         &self,
         rt: &R,
@@ -167,7 +167,7 @@ impl<T: TreeHash, A: Allocator + Copy> Guarded<T, A> {
         reply
     }
 
-    /// The origin as it is once nobody shares it.
+    /// Returns the origin once nobody shares it any more.
     pub(crate) fn into_state<R: Wait>(self, rt: &R) -> OriginState<T, A>
         ensures { IsLater T.digest_of (⟦<Guarded<T, A> as ShownGuarded>⟧.shown_guarded self)
             (⟦<OriginState<T, A> as ShownState>⟧.shown_state result) }
@@ -178,7 +178,7 @@ impl<T: TreeHash, A: Allocator + Copy> Guarded<T, A> {
         OriginState { origin, chain }
     }
 
-    /// The size and root that the chain has reached when the lock is taken.
+    /// Returns the size and root that the chain has when the lock is taken.
     pub(crate) fn head<R: Wait>(&self, rt: &R) -> (u64, Hash)
         ensures { (later : List Step) × IsLaterChain T.digest_of self.now.chain.slot.value later
             × (result.0 ≡ (last_head (first_head T.digest_of) later).size)
@@ -191,8 +191,8 @@ impl<T: TreeHash, A: Allocator + Copy> Guarded<T, A> {
         head
     }
 
-    /// A copy of at most so many links from this place on, as they are when the lock is taken. It fails only where
-    /// a growth was refused.
+    /// Returns a copy of the links from position `from` on, at most `most` of them, as they are when the lock is
+    /// taken. It fails only if allocation fails.
     pub(crate) fn links<R: Wait>(
         &self,
         rt: &R,
@@ -211,7 +211,7 @@ impl<T: TreeHash, A: Allocator + Copy> Guarded<T, A> {
         links
     }
 
-    /// A copy of all links, as they are when the lock is taken. It fails only where a growth was refused.
+    /// Returns a copy of all links, as they are when the lock is taken. It fails only if allocation fails.
     pub(crate) fn all_links<R: Wait>(&self, rt: &R, alloc: A) -> Result<Vec<Link<A>, A>, AllocError>
         ensures { IfOk result (λ links.
             IsLaterChain T.digest_of self.now.chain.slot.value (map step_of links.items)) }

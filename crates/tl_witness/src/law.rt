@@ -1,4 +1,4 @@
-//! Laws of runs, chains and saved links: they hold of the definitions alone.
+//! Laws of runs, chains and saved links, which hold of the definitions alone.
 
 ghost use Rattle.std.specs.Prelude.{◌≡◌, ℕ, ◌+◌, ◌⊎◌, List, [], Some, slice_get, drop};
 ghost use Rattle.tl_hash.specs.Bytes.{Bytes, Digest};
@@ -17,21 +17,21 @@ ghost use Rattle.tl_witness.specs.Witnessed.{Witnessed};
 
 use tl_proof::laws::audit_law;
 
-/// Whatever the requests to one origin, and whatever faults come: its chain stays a chain and begins with what it
-/// was, and the links between lead from the one to the other. It computes nothing: its contract is the law.
+/// Whatever requests one origin gets, and whatever fails, its chain stays a chain that begins with what it was, and
+/// the added links lead from there to its end. It computes nothing: its contract is the law.
 pub fn chains_only_grow()
     ensures { (H : Digest) (one last : Witnessed) (outs : List Outcome)
         → IsChain H one.chain → IsRun H one outs last → IsLaterChain H one.chain last.chain }
 {}
 
-/// Whatever the requests to a book, and whatever faults come: each origin keeps its place, its verifiers and its
-/// cosigner, and its chain only grows. It computes nothing: its contract is the law.
+/// Whatever requests a book gets, and whatever fails, each origin keeps its position, verifiers and cosigner, and its
+/// chain only grows. It computes nothing: its contract is the law.
 pub fn books_only_grow()
     ensures { (H : Digest) (book last : List Witnessed) (outs : List BookOutcome)
         → IsLawful H book → IsBookRun H book outs last → IsLaterBook H book last }
 {}
 
-/// The links after one of a chain are linked from it, and all of them from size 0 and the hash of no bytes, so an
+/// The links after any one of a chain are linked from it, and all of them from size 0 and the hash of no bytes. So an
 /// audit can start anywhere. It computes nothing: its contract is the law.
 pub fn chains_are_linked_from_each_step()
     ensures { (H : Digest) (chain : List Step) → IsChain H chain → Linked H 0 (H []) chain
@@ -39,8 +39,8 @@ pub fn chains_are_linked_from_each_step()
         → Linked H step.size step.root (drop (place + 1) chain)) }
 {}
 
-/// No bytes are saved links in two ways, nor are some that have a malformed line, so `read_chain` gives the links
-/// of which `write_chain_line` wrote the lines. It computes nothing: its contract is the law.
+/// No bytes are saved links in two ways, or are saved links and have a malformed line. So `read_chain` returns the
+/// links whose lines `write_chain_line` wrote. It computes nothing: its contract is the law.
 pub fn saved_links_have_one_reading()
     ensures lines { (bytes : Bytes) (xs ys : List ChainLine)
         → IsChainText bytes xs → IsChainText bytes ys → xs ≡ ys }
@@ -50,16 +50,17 @@ pub fn saved_links_have_one_reading()
         → IsChainText bytes xs → ¬ (IsMalformedAt bytes place) }
 {}
 
-/// Every book that was opened is sound: each origin's links are a chain, and no origin stands there twice. It
-/// computes nothing: its contract is the law.
+/// Every book that was opened is sound: each origin's links are a chain, and no origin is in it twice. It computes
+/// nothing: its contract is the law.
 pub fn opened_books_are_sound()
     ensures { (H : Digest) (trusts : List Trusted) (chains : List SavedChain)
         (book : List Witnessed) → OpensBook H trusts chains book → IsSound H book }
 {}
 
-/// Of any two requests of a run of one book that were answered with 200 for one origin, whatever requests and
-/// faults came before, between and after: each list of the earlier checkpoint is a prefix of each list of the later
-/// one, or two different byte strings that are named have one digest. It computes nothing: its contract is the law.
+/// Take two requests of a run of one book that were answered with 200 for the same origin, whatever requests and
+/// faults came before, between and after. Each list of the earlier checkpoint is a prefix of each list of the later
+/// one, or two different byte strings, which are named, have the same digest. It computes nothing: its contract is
+/// the law.
 pub fn cosigned_checkpoints_extend()
     ensures { (H : Digest) → ((message : Bytes) → HasHashLength (H message))
         → (first second : BookOutcome) (earlier later : Head)

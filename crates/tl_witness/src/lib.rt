@@ -1,11 +1,29 @@
-//! A witness of transparency logs: it cosigns checkpoints that extend those it cosigned before (C2SP tlog-witness).
+//! A witness of transparency logs: it cosigns only checkpoints that extend those it cosigned before (C2SP
+//! tlog-witness).
 //!
-//! ```
+//! A witness has a `Trust` for each log: its origin, the verifiers of its signatures, and the signer that cosigns for
+//! it. A `Book` keeps, besides, the chain of each origin: a link for each size that it cosigned, with the consistency
+//! proof from the size before. `add` answers the body of an add-checkpoint request with the status and body of the
+//! HTTP response.
+//!
+//! ```rust
+//! let mut trusts = Vec::new(alloc);
+//! trusts.push(Trust { origin, verifiers, cosigner })?;
+//! let chains = read_chain(alloc, &saved)?; // the links that were saved; no bytes for a new witness
 //! let mut book = Book::open(alloc, alloc, Sha256Tree, trusts, chains)?;
 //! let reply = book.add(body, 1_700_000_000, &mut saver);
 //! assert_eq!(reply.status, 200); // its body is a cosignature line
 //! let reply = book.add(body, 1_700_000_001, &mut saver);
-//! assert_eq!(reply.status, 409); // the log was cosigned at a larger size since
+//! assert_eq!(reply.status, 409); // a larger size is cosigned now; the body has it
+//! ```
+//!
+//! The `Saver` keeps each link outside the program before the witness cosigns it, so that a restart forgets nothing:
+//! for example as the lines that `write_chain_line` writes and `read_chain` reads. A `SharedWitness` is a book that
+//! threads share, with one lock for each origin:
+//!
+//! ```rust
+//! let witness = SharedWitness::new(book)?;
+//! let reply = witness.add(rt, body, 1_700_000_002, &mut saver); // waits only for requests of the same origin
 //! ```
 #![tactic(auto)]
 

@@ -1,4 +1,4 @@
-//! A lock whose value fits a tag that was fixed when it was made, and grows from turn to turn.
+//! A lock whose value fits a tag that was fixed when the lock was made, and grows from turn to turn.
 
 ghost use Rattle.std.specs.Prelude.{◌≡◌};
 
@@ -6,13 +6,13 @@ use counted_slot::{Counted, FREE, Fits, TAKEN};
 use std::snapshot::Snapshot;
 use std::sync::{Mutex, MutexGuard, Wait};
 
-/// A value that may stand in a lock. What a turn puts back has grown from what it took.
+/// A value that can be behind a lock. The value that a turn puts back has grown from the one that it took.
 pub(crate) trait Grows: Fits {
     ghost grows: { Self → Self → Type 0 };
 }
 
-/// A value that one thread has at a time. A contract sees the tag, which each value under the lock fits. The slot
-/// is empty only while the gate is held.
+/// A value that one thread has at a time. A contract sees the tag, which each value behind the lock fits. The slot is
+/// empty only while the gate is held.
 #[derive(Drop)]
 pub(crate) struct Lock<X: Fits> {
     gate: Mutex<()>,
@@ -26,7 +26,7 @@ pub(crate) struct Turn<'a, X: Fits> {
     before: Snapshot<X>,
 }
 
-/// What a turn did: the value that it took, and the one that it put back. Only `leave` makes one.
+/// What a turn did: the value that it took and the value that it put back. Only `leave` makes one.
 #[derive(Drop)]
 pub(crate) struct Change<X> {
     before: Snapshot<X>,
@@ -34,7 +34,7 @@ pub(crate) struct Change<X> {
 }
 
 impl<X: Grows> Lock<X> {
-    /// A lock with this value in it.
+    /// Returns a lock with this value.
     pub(crate) fn new(value: X, tag: &X::Tag) -> Self
         requires { X.fits tag.now value }
         ensures { result.slot ≡ tag.now }
@@ -45,7 +45,7 @@ impl<X: Grows> Lock<X> {
         }
     }
 
-    /// Waits for its turn, and takes the value out. The next turn comes when this one is left.
+    /// Waits for its turn and takes the value out. The next turn begins when this one has left.
     pub(crate) fn enter<R: Wait>(&self, rt: &R) -> (Turn<'_, X>, X)
         ensures fits { X.fits self.now.slot result.1 }
         ensures lock { result.0.lock.now ≡ self.now }
@@ -62,7 +62,7 @@ impl<X: Grows> Lock<X> {
         (turn, value)
     }
 
-    // Takes the value out, where the gate is held.
+    // Takes the value out. The gate must be held.
     fn take<R: Wait>(&self, rt: &R) -> X
         ensures { X.fits self.now.slot result }
     {
@@ -80,8 +80,8 @@ impl<X: Grows> Lock<X> {
         unreachable!()
     }
 
-    // Puts the value back, where the gate is held and the slot is empty. It would go on for ever where it found
-    // another one there.
+    // Puts the value back. The gate must be held and the slot be empty. It would loop forever if it found another
+    // value there.
     fn put_back<R: Wait>(&self, rt: &R, value: X)
         requires { X.fits self.now.slot value }
     {
@@ -100,7 +100,8 @@ impl<X: Grows> Lock<X> {
         unreachable!()
     }
 
-    /// The value, once nobody shares the lock. It would wait for one that was taken and not put back.
+    /// Returns the value once nobody shares the lock. It would wait forever for a value that was taken and not put
+    /// back.
     pub(crate) fn into_inner<R: Wait>(self, rt: &R) -> X
         ensures { X.fits self.slot result }
     {
@@ -114,7 +115,7 @@ impl<X: Grows> Lock<X> {
 }
 
 impl<X: Grows> Turn<'_, X> {
-    /// Puts a value back that has grown from the one that was taken, and ends the turn.
+    /// Puts back a value that has grown from the one taken, and ends the turn.
     pub(crate) fn leave<R: Wait>(self, rt: &R, value: X) -> Change<X>
         requires fits { X.fits self.lock.now.slot value }
         requires grows { X.grows self.before.value value }

@@ -1,4 +1,4 @@
-//! Opening a book with whom it trusts and the chains that were saved.
+//! Opening a book from trusts and saved chains.
 
 ghost use Rattle.std.specs.Prelude.{◌≡◌, ◌<◌, ◌⊎◌, All, IfErr, IfOk, MatchOption, OnErr, length, map, string_bytes};
 ghost use Rattle.std.specs.List.{AllZip};
@@ -24,24 +24,24 @@ use tl_proof::Link;
 /// Why a book is not opened. Trusts, chains and links are counted from 0.
 #[derive(Clone, Copy, Debug, PartialEq, Eq, Error)]
 pub enum BookFault {
-    /// An origin is in two trusts or two chains, or two verifiers of a trust have one name and identifier.
+    /// An origin is in two trusts or two chains, or two verifiers of a trust have the same name and identifier.
     #[error("an origin or a verifier is named twice")]
     TwiceNamed,
-    /// This chain is of no origin that is trusted.
+    /// The origin of this chain is in no trust.
     #[error("chain {0} is of no origin that is trusted")]
     NoTrust(usize),
-    /// The cosigner of this trust has no key's name.
+    /// The cosigner of this trust has no valid key name.
     #[error("the cosigner of trust {0} has a bad name")]
     BadName(usize),
     /// This link of this chain isn't accepted from the one before.
     #[error("link {link} of chain {chain} isn't accepted")]
     BadChain {
-        /// The place of the chain.
+        /// The position of the chain.
         chain: usize,
-        /// The place of the link in it.
+        /// The position of the link in the chain.
         link: usize,
     },
-    /// A growth was refused. It never comes where there is no trust and no chain.
+    /// Allocation failed. It never comes if there is no trust and no chain.
     #[error("out of memory")]
     OutOfMemory,
 }
@@ -54,7 +54,7 @@ impl<A: Allocator> OfOrigin for (String<A>, Vec<Link<A>, A>) {
     }
 }
 
-// A chain, and its origin.
+// A checked chain and its origin.
 #[derive(Drop)]
 struct Checked<T: TreeHash, A: Allocator> {
     origin: String<A>,
@@ -69,7 +69,7 @@ impl<T: TreeHash, A: Allocator> OfOrigin for Checked<T, A> {
     }
 }
 
-// The chains of these links; else the place of the first chain that breaks, and of the link where it does.
+// Checks the chains. The error has the positions of the first chain that breaks and of the link at which it does.
 fn check_chains<T: TreeHash, A: Allocator + Copy>(
     alloc: A,
     tree: T,
@@ -102,7 +102,8 @@ fn check_chains<T: TreeHash, A: Allocator + Copy>(
     Ok(checked)
 }
 
-// Takes the chain of an origin, or one of no links where there is none. The places are those of the chains.
+// Takes the chain of an origin out of `chains`, or returns one of no links if it has none. `places` has the positions
+// of the chains.
 fn take_chain<T: TreeHash, A: Allocator + Copy>(
     alloc: A,
     tree: T,
@@ -124,7 +125,7 @@ fn take_chain<T: TreeHash, A: Allocator + Copy>(
     }
 }
 
-// What is kept for each trust, in order: its chain, or one of no links. It fails only where a growth was refused.
+// Returns what is kept for each trust, in order: its chain, or one of no links. It fails only if allocation fails.
 fn enter<T: TreeHash, A: Allocator + Copy>(
     alloc: A,
     tree: T,
@@ -165,15 +166,15 @@ fn enter<T: TreeHash, A: Allocator + Copy>(
     Ok(states)
 }
 
-// The places of the trusts and of the chains.
+// The positions of the origins in the trusts and in the chains.
 #[derive(Drop)]
 struct Places<A: Allocator> {
     trusts: ByOrigin<A>,
     chains: ByOrigin<A>,
 }
 
-// The places of the trusts and of the chains, or None where an origin is in two trusts or two chains, or a trust
-// has two verifiers of one name and identifier.
+// Returns the positions of the origins in the trusts and in the chains. It is `None` if an origin is in two trusts or
+// two chains, or a trust has two verifiers of the same name and identifier.
 fn places_of<N: OfOrigin + HasKeys, M: OfOrigin, A: Allocator + Copy>(
     alloc: A,
     trusts: &[N],
@@ -204,11 +205,12 @@ fn places_of<N: OfOrigin + HasKeys, M: OfOrigin, A: Allocator + Copy>(
 }
 
 impl<T: TreeHash, A: Allocator + Copy> Book<T, A> {
-    /// The book of whom a witness trusts for each origin, and of the chains that were saved. An origin without a
-    /// chain begins with size 0 and the hash of no bytes. `global` is what the cosigners take memory from.
+    /// Opens a book with the logs that the witness trusts and the chains that were saved. The chain of an origin that
+    /// none was saved for begins with size 0 and the hash of no bytes. The cosigners allocate from `global`.
     ///
-    /// The faults are found in their order: `TwiceNamed`, then the first chain without a trust, the first cosigner
-    /// without a key's name, and the first chain that breaks with the first link that isn't accepted.
+    /// If several faults apply, the first is returned, in this order: `TwiceNamed`; the first chain without a trust;
+    /// the first cosigner without a valid key name; the first chain that breaks, with its first link that isn't
+    /// accepted.
     pub fn open(
         alloc: A,
         global: Global,

@@ -1,5 +1,4 @@
-//! What is kept of one origin: whom the witness trusts for it and who cosigns, which never changes, and its links. How
-//! it answers a request.
+//! What is kept of one origin, and how it answers a request. Only its links ever change.
 
 ghost use Rattle.std.specs.Prelude.{◌≡◌, ◌↔◌, ◌≤◌, [], IfOk, IsTrue, OnErr, map, string_bytes};
 ghost use Rattle.tl_note.specs.Open.{Opened};
@@ -21,7 +20,7 @@ use tl_hash::TreeHash;
 use tl_note::{NoteFault, NoteView, Signer, Verifier, verify_note};
 use tl_proof::Link;
 
-/// An origin's name, whose signatures are asked, and who cosigns. None of it ever changes.
+/// An origin's name, the verifiers of its log, and its cosigner. None of it ever changes.
 #[derive(Drop)]
 pub(crate) struct Origin<A: Allocator> {
     pub(crate) name: String<A>,
@@ -30,7 +29,7 @@ pub(crate) struct Origin<A: Allocator> {
     pub(crate) cosigner_name: KeyName<A>,
 }
 
-/// What contracts see of it, given the chain.
+/// What contracts see of an origin with this chain.
 pub(crate) trait ShownOrigin {
     ghost use Rattle.std.specs.Prelude.{List};
     ghost use Rattle.tl_proof.specs.Acceptance.{Step};
@@ -55,7 +54,7 @@ pub(crate) struct OriginState<T: TreeHash, A: Allocator> {
     pub(crate) chain: Chain<T, A>,
 }
 
-/// What contracts see of it.
+/// What contracts see of an origin and its links.
 pub(crate) trait ShownState {
     ghost use Rattle.tl_witness.specs.Witnessed.{Witnessed};
 
@@ -81,14 +80,14 @@ impl<T: TreeHash, A: Allocator> OfOrigin for OriginState<T, A> {
     }
 }
 
-// Whether memory was refused.
+// Reports whether the fault is that memory ran out.
 fn is_out_of_memory(fault: NoteFault) -> bool
     ensures { IsTrue result ↔ (fault ≡ NoteFault.OutOfMemory) }
 {
     matches!(fault, NoteFault::OutOfMemory)
 }
 
-// Whether a note is open to the verifiers. It fails only where a growth was refused.
+// Reports whether the note opens with the verifiers. It fails only if allocation fails.
 fn is_open<A: Allocator + Copy>(
     alloc: A,
     note: NoteView<'_, A>,
@@ -105,7 +104,7 @@ fn is_open<A: Allocator + Copy>(
 }
 
 impl<A: Allocator + Copy> Origin<A> {
-    // Cosigns what the link says, where it follows the chain, and keeps a larger link.
+    // Cosigns the checkpoint of a link that follows the chain, and keeps the link if its size is larger.
     fn attest<T: TreeHash, S: Saver>(
         &self,
         tools: Tools<T, A>,
@@ -144,7 +143,7 @@ impl<A: Allocator + Copy> Origin<A> {
         }
     }
 
-    // Decides a request whose note is open.
+    // Decides a request whose note opens.
     fn settle<T: TreeHash, S: Saver>(
         &self,
         tools: Tools<T, A>,
@@ -179,8 +178,8 @@ impl<A: Allocator + Copy> Origin<A> {
         self.attest(tools, chain, link, text, time, saver)
     }
 
-    /// Decides a request for this origin, which has this chain. It fails only where a growth was refused, and then
-    /// nothing changed.
+    /// Decides a request for this origin, which has this chain. It fails only if allocation fails, and then nothing
+    /// has changed.
     pub(crate) fn answer<T: TreeHash, S: Saver>(
         &self,
         tools: Tools<T, A>,

@@ -1,4 +1,4 @@
-//! What the witness answers.
+//! The answer of a witness.
 
 ghost use Rattle.std.specs.Prelude.{◌≡◌, [], IfOk};
 ghost use Rattle.tl_text.specs.Text.{line, number_text};
@@ -11,11 +11,11 @@ use std::alloc::{AllocError, Allocator};
 pub struct Reply<A: Allocator> {
     /// 200, 400, 403, 404, 409, 422 or 500.
     pub status: u16,
-    /// At 200 a cosignature line, at 409 the last size in decimal and a newline; empty otherwise.
+    /// With 200 a cosignature line, with 409 the last cosigned size in decimal and a newline; else empty.
     pub body: Vec<u8, A>,
 }
 
-/// The reply of this status with no body. It takes no memory.
+/// Returns the reply with this status and no body. It allocates nothing.
 pub(crate) fn refusal<A: Allocator>(alloc: A, status: u16) -> Reply<A>
     ensures status { result.status ≡ status }
     ensures body { result.body.items ≡ [] }
@@ -26,7 +26,7 @@ pub(crate) fn refusal<A: Allocator>(alloc: A, status: u16) -> Reply<A>
     }
 }
 
-/// The reply 409 with the last size and a newline. It fails only where a growth was refused.
+/// Returns the reply 409 with the last cosigned size and a newline. It fails only if allocation fails.
 pub(crate) fn conflict<A: Allocator>(alloc: A, size: u64) -> Result<Reply<A>, AllocError>
     ensures { IfOk result
         (λ reply. (reply.status ≡ 409) × (reply.body.items ≡ line (number_text size))) }

@@ -1,4 +1,4 @@
-//! The body of an add-checkpoint request, read.
+//! Reading the body of an add-checkpoint request.
 
 ghost use Rattle.std.specs.Prelude.{◌≡◌, ◌++◌, ◌<◌, IfOk, IsUtf8, List, MatchOption, OnErr, ◌↔◌};
 ghost use Rattle.tl_hash.specs.Bytes.{Bytes, IsHash};
@@ -15,7 +15,7 @@ use tl_note::{NoteFault, NoteView, parse_note};
 use tl_proof::HashList;
 use tl_text::{parse_hash, parse_size, split_line};
 
-/// No proof between sizes below 2^63 has more hashes.
+/// No consistency proof between sizes below 2^63 has more hashes than this.
 pub(crate) const MOST_HASHES: usize = 63;
 
 /// What an add-checkpoint request asks (C2SP tlog-witness, "add-checkpoint").
@@ -23,19 +23,19 @@ pub(crate) const MOST_HASHES: usize = 63;
 pub struct AddRequest<'m, A: Allocator> {
     /// The size that the client believes was cosigned last, below 2^63.
     pub old: u64,
-    /// The consistency proof from there, of 63 hashes at most.
+    /// The consistency proof from that size, of at most 63 hashes.
     pub proof: HashList<A>,
-    /// The signed checkpoint, within the body.
+    /// The signed checkpoint, a part of the body.
     pub note: &'m str,
 }
 
 /// Why a body isn't read.
 #[derive(Clone, Copy, Debug, PartialEq, Eq, Error)]
 pub enum RequestFault {
-    /// It is no body of a request.
+    /// The bytes are not the body of a request.
     #[error("not a request")]
     Malformed,
-    /// A growth was refused.
+    /// Allocation failed.
     #[error("out of memory")]
     OutOfMemory,
 }
@@ -60,7 +60,7 @@ impl<X: Drop> From<AllocFailed<X>> for RequestFault {
     }
 }
 
-// The hash that is the first line of a text, and what follows it.
+// Returns the hash that is the first line of a text, and what follows it.
 fn next_hash(text: &str) -> Option<(Hash, &str)>
     ensures { MatchOption result (HasNoHashLine text.now)
         (λ r. IsHash r.0 × (text.now ≡ line (base64_text r.0) ++ r.1.now) × IsUtf8 r.1.now) }
@@ -74,7 +74,8 @@ fn next_hash(text: &str) -> Option<(Hash, &str)>
     Some((hash, rest))
 }
 
-// How many lines of hashes stand before an empty line, 63 at most, and the note that follows that.
+// Returns the number of lines with hashes, at most 63, before an empty line, and the note that follows the empty
+// line.
 fn cut_proof(text: &str) -> Option<(usize, &str)>
     ensures { MatchOption result (HasNoProof text.now) (λ r. HasProof text.now r.0 r.1.now) }
 {
@@ -93,7 +94,7 @@ fn cut_proof(text: &str) -> Option<(usize, &str)>
     Some((count, &left[1..]))
 }
 
-// The hashes of so many lines before an empty line.
+// Reads the hashes of `count` lines that are followed by an empty line.
 fn read_hashes<A: Allocator>(alloc: A, count: usize, text: &str) -> Result<HashList<A>, AllocError>
     requires { (note : Bytes) × HasProof text.now count note }
     ensures read { IfOk result (λ hashes.
@@ -110,9 +111,9 @@ fn read_hashes<A: Allocator>(alloc: A, count: usize, text: &str) -> Result<HashL
     Ok(HashList::from_vec(hashes))
 }
 
-/// The request that a body is: the old size, the hashes of the proof, one on each line and 63 at most, an empty line,
-/// and the note. `Malformed` exactly where the bytes are no such text. Memory is asked for once, for the hashes of a
-/// request's proof, where it has any.
+/// Parses the body of a request (C2SP tlog-witness, "add-checkpoint"): the line with the old size, the hashes of the
+/// proof, one on each line and 63 at most, an empty line, and the note. `Malformed` means that the bytes are no such
+/// text. Allocates only once, for the hashes of a request's proof, and nothing if there are none.
 pub fn parse_request<A: Allocator + Copy>(
     alloc: A,
     body: &[u8],
@@ -138,14 +139,14 @@ pub fn parse_request<A: Allocator + Copy>(
     Ok(AddRequest { old, proof, note })
 }
 
-/// A note, and the checkpoint that its text is.
+/// A note, and the checkpoint that is its text.
 #[derive(Drop)]
 pub(crate) struct SignedCheckpoint<'m, A: Allocator> {
     pub(crate) note: NoteView<'m, A>,
     pub(crate) checkpoint: Checkpoint<A>,
 }
 
-// What a fault of the checkpoint is for the request.
+// Converts the fault of a checkpoint.
 fn fault_of(fault: CheckpointFault) -> RequestFault
     ensures { (result ≡ RequestFault.OutOfMemory) ↔ (fault ≡ CheckpointFault.OutOfMemory) }
 {
@@ -155,8 +156,8 @@ fn fault_of(fault: CheckpointFault) -> RequestFault
     }
 }
 
-/// Reads a note and the checkpoint that its text is. `Malformed` where the bytes are no note, or its text is no
-/// checkpoint. No signature is verified.
+/// Parses a note and the checkpoint that is its text. `Malformed` means that the bytes are no note, or the text is no
+/// checkpoint. It verifies no signature.
 pub(crate) fn read_signed<A: Allocator + Copy>(
     alloc: A,
     bytes: &str,

@@ -1,4 +1,4 @@
-//! A witness that threads share: one lock for each origin.
+//! A witness that threads share, with one lock for each origin.
 
 ghost use Rattle.std.specs.Prelude.{◌≡◌, ◌≤◌, [], ℕ, IfErr, IfOk, MatchOption, OnErr, drop, length, map, take, vec_capacity};
 ghost use Rattle.tl_proof.specs.Acceptance.{step_of};
@@ -22,8 +22,8 @@ use tl_hash::{Hash, TreeHash};
 use tl_note::{Signer, Verifier};
 use tl_proof::Link;
 
-/// A book that threads share. What never changes stands outside the locks, so a request waits for no other
-/// origin's, and one that is refused for its form or its origin waits for none.
+/// A book that threads share. What never changes is outside the locks. So a request waits only for requests to the
+/// same origin, and one that is malformed or has an unknown origin waits for none.
 #[derive(Drop)]
 pub struct SharedWitness<T: TreeHash, A: Allocator + Copy> {
     tools: Tools<T, A>,
@@ -41,7 +41,7 @@ impl<T: TreeHash, A: Allocator + Copy> Shown for SharedWitness<T, A> {
         s.chain.slot.value) w.states.items };
 }
 
-// An empty list with room for what a book keeps.
+// Returns an empty list with room for what a book keeps.
 fn room_for<T: TreeHash, A: Allocator + Copy>(
     book: &Book<T, A>,
 ) -> Result<Vec<Guarded<T, A>, A>, AllocError>
@@ -53,14 +53,14 @@ fn room_for<T: TreeHash, A: Allocator + Copy>(
     Ok(list)
 }
 
-/// A book that was not shared, since memory was refused.
+/// The error of `SharedWitness::new`: allocation failed.
 #[derive(Drop)]
 pub struct BookBack<T: TreeHash, A: Allocator + Copy> {
-    /// The book as it was.
+    /// The book, unchanged.
     pub book: Book<T, A>,
 }
 
-// An empty list with room for what a shared witness keeps.
+// Returns an empty list with room for what a shared witness keeps.
 fn room_back<T: TreeHash, A: Allocator + Copy>(
     witness: &SharedWitness<T, A>,
 ) -> Result<Vec<OriginState<T, A>, A>, AllocError>
@@ -72,16 +72,16 @@ fn room_back<T: TreeHash, A: Allocator + Copy>(
     Ok(list)
 }
 
-/// A witness that was not made a book again, since memory was refused.
+/// The error of `into_book`: allocation failed.
 #[derive(Drop)]
 pub struct WitnessBack<T: TreeHash, A: Allocator + Copy> {
-    /// The witness as it was.
+    /// The witness, unchanged.
     pub witness: SharedWitness<T, A>,
 }
 
 impl<T: TreeHash, A: Allocator + Copy> SharedWitness<T, A> {
-    /// Shares a book: each origin keeps its verifiers, its cosigner and its links, and each later chain begins with
-    /// those. It gives the book back where a growth was refused.
+    /// Shares a book. Each origin keeps its verifiers, cosigner and links, and every later chain begins with these
+    /// links. If allocation fails the book comes back.
     pub fn new(book: Book<T, A>) -> Result<Self, BookBack<T, A>>
         ensures ok { IfOk result
             (λ w. ⟦<SharedWitness<T, A> as Shown>⟧.shown w ≡ ⟦<Book<T, A> as Shown>⟧.shown book) }
@@ -105,8 +105,8 @@ impl<T: TreeHash, A: Allocator + Copy> SharedWitness<T, A> {
         })
     }
 
-    /// Decides an add-checkpoint request, as `Book::try_add` does, from what its origin has when its turn comes. It
-    /// fails only where a growth was refused, with nothing changed.
+    /// Decides an add-checkpoint request as `Book::try_add` does, from what its origin has when its turn comes. It
+    /// fails only if allocation fails, and then nothing has changed.
     pub fn try_add<R: Wait, S: Saver>(
         &self,
         rt: &R,
@@ -130,8 +130,7 @@ impl<T: TreeHash, A: Allocator + Copy> SharedWitness<T, A> {
         self.states[found.place].answer(rt, tools, found.offer, time, saver)
     }
 
-    /// Answers an add-checkpoint request as `try_add` decides it, and with 500 where that asked for memory which
-    /// was refused.
+    /// Answers an add-checkpoint request as `try_add` decides it, or with 500 if allocation fails.
     pub fn add<R: Wait, S: Saver>(&self, rt: &R, body: &[u8], time: u64, saver: &mut S) -> Reply<A>
         ensures { AnswersShared T.digest_of (⟦<SharedWitness<T, A> as Shown>⟧.shown self.now)
             body.now time (answer_of result (S.saved saver.old) (S.saved saver.new)) }
@@ -142,8 +141,8 @@ impl<T: TreeHash, A: Allocator + Copy> SharedWitness<T, A> {
         }
     }
 
-    /// A copy of an origin's links, as they are when its lock is taken: they begin with those that were handed in.
-    /// None where the origin is unknown. It fails only where a growth was refused.
+    /// Returns a copy of an origin's links, as they are when its lock is taken, or `None` if the origin is unknown.
+    /// They begin with the links of the book that was shared. It fails only if allocation fails.
     pub fn chain<R: Wait>(
         &self,
         rt: &R,
@@ -161,8 +160,8 @@ impl<T: TreeHash, A: Allocator + Copy> SharedWitness<T, A> {
         Ok(Some(links))
     }
 
-    /// A copy of at most so many of an origin's links from this place on, counted from 0, as they are when its lock
-    /// is taken. None where the origin is unknown. It fails only where a growth was refused.
+    /// Returns a copy of an origin's links from position `from`, counted from 0, at most `most` of them, as they are
+    /// when its lock is taken. It is `None` if the origin is unknown. It fails only if allocation fails.
     pub fn links<R: Wait>(
         &self,
         rt: &R,
@@ -182,7 +181,7 @@ impl<T: TreeHash, A: Allocator + Copy> SharedWitness<T, A> {
         Ok(Some(links))
     }
 
-    /// The size and root that an origin has reached when its lock is taken. None where the origin is unknown.
+    /// Returns the size and root that an origin has when its lock is taken, or `None` if the origin is unknown.
     pub fn head<R: Wait>(&self, rt: &R, origin: &str) -> Option<(u64, Hash)>
         ensures { MatchOption result ((placed : Placed)
             → ¬ (IsPlacedIn (⟦<SharedWitness<T, A> as Shown>⟧.shown self.now) origin.now placed))
@@ -196,8 +195,8 @@ impl<T: TreeHash, A: Allocator + Copy> SharedWitness<T, A> {
         Some(self.states[place].head(rt))
     }
 
-    /// The book, once nobody shares it: the same origins, with chains that begin with those that were handed in. It
-    /// gives the witness back where a growth was refused.
+    /// Returns the book once nobody shares it: the same origins, with chains that begin with those of the book that
+    /// was shared. If allocation fails the witness comes back.
     pub fn into_book<R: Wait>(self, rt: &R) -> Result<Book<T, A>, WitnessBack<T, A>>
         ensures ok { IfOk result (λ book. IsLaterBook T.digest_of
             (⟦<SharedWitness<T, A> as Shown>⟧.shown self) (⟦<Book<T, A> as Shown>⟧.shown book)) }

@@ -1,4 +1,4 @@
-//! Whom a witness trusts for an origin.
+//! The logs that a witness trusts.
 
 ghost use Rattle.std.specs.Prelude.{◌≡◌, ◌↔◌, All, IsTrue, MatchOption, map, string_bytes};
 ghost use Rattle.tl_hash.specs.Bytes.{Bytes};
@@ -9,14 +9,15 @@ use crate::by_origin::OfOrigin;
 use std::alloc::Allocator;
 use tl_note::{Signer, Verifier, is_key_name};
 
-/// Whose checkpoints are cosigned for an origin, and by whom.
+/// A log whose checkpoints the witness cosigns.
 #[derive(Drop)]
 pub struct Trust<A: Allocator> {
-    /// The origin of the checkpoints.
+    /// The origin of the log's checkpoints.
     pub origin: String<A>,
-    /// Whose signatures are asked: a checkpoint is cosigned where one of them signed it, and none is invalid.
+    /// The verifiers of the log's signatures. A checkpoint is cosigned only if one of them has a valid signature on
+    /// it, and none an invalid one.
     pub verifiers: Vec<Box<dyn Verifier>, A>,
-    /// Who cosigns for this origin.
+    /// The signer that cosigns for this origin.
     pub cosigner: Box<dyn Signer>,
 }
 
@@ -43,14 +44,14 @@ impl<A: Allocator> OfOrigin for Trust<A> {
     }
 }
 
-// Whether the verifier has this name and identifier.
+// Reports whether the verifier has this name and identifier.
 fn is_key(verifier: &Box<dyn Verifier>, name: &str, id: u32) -> bool
     ensures { IsTrue result ↔ (key_name (key verifier.now) ≡ (name.now, id)) }
 {
     verifier.name() == name && verifier.key_id() == id
 }
 
-// Whether a verifier has this name and identifier.
+// Reports whether one of the verifiers has this name and identifier.
 fn has_key(verifiers: &[Box<dyn Verifier>], name: &str, id: u32) -> bool
     ensures { IsTrue result
         ↔ IsAmong (name.now, id) (map key_name (map (λ v. key v) verifiers.now)) }
@@ -61,7 +62,7 @@ fn has_key(verifiers: &[Box<dyn Verifier>], name: &str, id: u32) -> bool
     }
 }
 
-// Whether a verifier's name and identifier are another's too.
+// Reports whether another verifier has this one's name and identifier.
 fn is_again(verifier: &Box<dyn Verifier>, others: &[Box<dyn Verifier>]) -> bool
     ensures { IsTrue result
         ↔ IsAmong (key_name (key verifier.now)) (map key_name (map (λ v. key v) others.now)) }
@@ -69,7 +70,7 @@ fn is_again(verifier: &Box<dyn Verifier>, others: &[Box<dyn Verifier>]) -> bool
     has_key(others, verifier.name(), verifier.key_id())
 }
 
-// Whether two verifiers have one name and identifier.
+// Reports whether two verifiers have the same name and identifier.
 fn is_key_twice(verifiers: &[Box<dyn Verifier>]) -> bool
     ensures { IsTrue result ↔ HasTwice (map key_name (map (λ v. key v) verifiers.now)) }
 {
@@ -84,14 +85,14 @@ fn is_key_twice(verifiers: &[Box<dyn Verifier>]) -> bool
     }
 }
 
-// Whether the cosigner has a key's name.
+// Reports whether the cosigner has a valid key name.
 fn is_named(cosigner: &Box<dyn Signer>) -> bool
     ensures { IsTrue result ↔ IsKeyName (signing_key cosigner.now).name }
 {
     is_key_name(cosigner.name())
 }
 
-/// What has verifiers and a cosigner.
+/// Something that has verifiers and a cosigner.
 pub(crate) trait HasKeys {
     ghost use Rattle.std.specs.Prelude.{List, ℕ};
     ghost use Rattle.tl_note.specs.Key.{Key};
@@ -100,11 +101,11 @@ pub(crate) trait HasKeys {
 
     ghost cosigner_name: { Self → Bytes };
 
-    /// Whether no two verifiers have one name and identifier.
+    /// Reports whether no two verifiers have the same name and identifier.
     fn has_each_key_once(&self) -> bool
         ensures { IsTrue result ↔ HasEachKeyOnce (keys self.now) };
 
-    /// Whether the cosigner has a key's name.
+    /// Reports whether the cosigner has a valid key name.
     fn has_named_cosigner(&self) -> bool
         ensures { IsTrue result ↔ IsKeyName (cosigner_name self.now) };
 }
@@ -126,7 +127,7 @@ impl<A: Allocator> HasKeys for Trust<A> {
     }
 }
 
-/// Whether no trust has two verifiers of one name and identifier.
+/// Reports whether no trust has two verifiers of the same name and identifier.
 pub(crate) fn are_keys_once<N: HasKeys>(trusts: &[N]) -> bool
     ensures { IsTrue result ↔ All HasEachKeyOnce (map N.keys trusts.now) }
 {
@@ -138,7 +139,7 @@ pub(crate) fn are_keys_once<N: HasKeys>(trusts: &[N]) -> bool
     true
 }
 
-/// The first trust whose cosigner has no key's name.
+/// Returns the position of the first trust whose cosigner has no valid key name.
 pub(crate) fn first_bad_name<N: HasKeys>(trusts: &[N]) -> Option<usize>
     ensures { MatchOption result (All IsKeyName (map N.cosigner_name trusts.now))
         (IsFirstNot IsKeyName (map N.cosigner_name trusts.now)) }

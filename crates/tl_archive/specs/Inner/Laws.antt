@@ -1,4 +1,4 @@
--- The laws by a name, for proofs.
+-- The laws under names that proofs use.
 use Rattle.std.specs.Prelude.{◌≡◌, List, ◌++◌, length, Contains}
 use Rattle.tl_hash.specs.Bytes.{Bytes, Digest}
 use Rattle.tl_tile.specs.declared.resource.Resource.{Resource}
@@ -7,7 +7,7 @@ use Rattle.tl_log.specs.Histories.{Prefix}
 use Rattle.tl_archive.specs.Shelves.{Kept}
 use Rattle.tl_archive.specs.Complete.{text_of, IsComplete, IsSafe}
 
--- what a log needed once has the same bytes over a longer log
+-- a tile or bundle that a log needed once has the same bytes over a longer log
 abbrev pub NeededBytesStay : Type 0
 NeededBytesStay = (H : Digest) (entries more : List Bytes) (r : Resource)
     → Contains (needed_resources (length entries)) r → text_of H r (entries ++ more) ≡ text_of H r entries

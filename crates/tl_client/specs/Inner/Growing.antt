@@ -8,11 +8,11 @@ use Rattle.tl_client.specs.Refused.{HoldsByTiles, IsBetween}
 use Rattle.tl_client.specs.declared.fault.ClientFault.{ClientFault}
 use Rattle.tl_client.specs.declared.fault.ClientFault.TheVariants as client
 
--- it is the proof of each list of this size and root that is apart from the tiles that it was made from
+-- this is the proof for every list of this size and root that is apart from the tiles that the proof was made from
 abbrev pub IsMadeProof : Digest → ℕ → ℕ → Bytes → List Bytes → Type 0
 IsMadeProof H old size root proof = HoldsByTiles H size root (λ all. proof ≡ consistency_proof H old all)
 
--- when a proof between sizes in range, to this root, is not made from a source, by the fault
+-- why a source gives no proof between sizes in range, to this root
 abbrev pub RefusesProof : (Resource → Bytes → Type 0) → (Resource → Type 0) → ℕ → ℕ → Bytes → ClientFault → Type 0
 RefusesProof answers lacks old size root client.Range = ⊥
 RefusesProof answers lacks old size root client.Unavailable =

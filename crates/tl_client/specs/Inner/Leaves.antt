@@ -15,19 +15,19 @@ use Rattle.tl_client.specs.declared.fault.ClientFault.TheVariants as client
 abbrev pub HaveLeaves : Digest → List Bytes → List Bytes → Type 0
 HaveLeaves H entries leaves = (i : ℕ) → i < length entries → H (leaf_input (slice_index_or entries i [])) ≡ slice_index_or leaves i []
 
--- the entries at these places have their leaf hashes
+-- the entries at positions `from` to `upto` - 1 have their leaf hashes
 abbrev pub HaveLeavesBetween : Digest → ℕ → ℕ → List Bytes → List Bytes → Type 0
 HaveLeavesBetween H from upto entries leaves =
     (i : ℕ) → from ≤ i → i < upto → H (leaf_input (slice_index_or entries i [])) ≡ slice_index_or leaves i []
 
--- the fault names one of these entries, from this index on, whose leaf hash is another
+-- the fault names one of these entries, whose first has index `first`, that has another leaf hash
 pub record IsOfOne (first : ℕ) (entries leaves : List Bytes) (fault : ClientFault) : Type 0 where
   pub place : ℕ
   pub below : place < length entries
   pub named : fault ≡ client.BadEntry (first + place)
   pub other : sha256 (leaf_input (slice_index_or entries place [])) ≢ slice_index_or leaves place []
 
--- a fault of fetching a bundle of this index and width
+-- why a bundle of this index and width is not fetched
 abbrev pub RefusesBundle : (Resource → Bytes → Type 0) → (Resource → Type 0) → ℕ → ℕ → ClientFault → Type 0
 RefusesBundle answers lacks bundle width client.Range = ⊥
 RefusesBundle answers lacks bundle width client.Unavailable = lacks (resource.Entries bundle width)
@@ -39,7 +39,7 @@ RefusesBundle answers lacks bundle width client.Shrunk = ⊥
 RefusesBundle answers lacks bundle width client.Forked = ⊥
 RefusesBundle answers lacks bundle width client.OutOfMemory = Unit {0}
 
--- a fault of reading leaf hashes that are in range
+-- why leaf hashes that are in range are not read
 abbrev pub RefusesLeaves : (Resource → Type 0) → Reading → ClientFault → Type 0
 RefusesLeaves lacks read client.Range = ⊥
 RefusesLeaves lacks read client.Unavailable = LacksTile lacks read

@@ -1,4 +1,4 @@
--- The folders above a file, as they are made.
+-- Making the folders above a file.
 use Rattle.std.specs.Prelude.{◌≡◌, List, ◌++◌, Result, Ok, Err}
 use Rattle.tl_folder.specs.Step.{Path}
 use Rattle.tl_folder.specs.FileCalls.{Call}

@@ -7,7 +7,7 @@ use Rattle.tl_folder.specs.Step.{Path, Bytes, Step}
 use Rattle.tl_folder.specs.Step as step
 use Rattle.tl_folder.specs.FileCalls.{Call}
 
--- the step that was asked, with its path and the bytes or the second path
+-- the step that was asked for, with its path and the bytes or the second path
 abbrev pub step_of : Asked → Path → Bytes → Step
 step_of asked.Write path more = step.Write path more
 step_of asked.Create path more = step.Create path

@@ -1,5 +1,5 @@
-//! The calls of a system by which a folder is kept. Contracts see what was asked, in order, and whether the system said
-//! that it was done.
+//! The system calls that a folder needs. Contracts see what was asked, in order, and whether the system reported
+//! success.
 
 ghost use Rattle.std.specs.Prelude.{◌≡◌, ◌≤◌, true, false, [], ◌∷◌, ◌++◌, length, take, is_ok, IfOk, IfSome, MatchResult};
 ghost use Rattle.tl_folder.specs.Step as step;
@@ -16,7 +16,7 @@ use std::io;
 use tl_device::{Counted, DeviceFault, read_whole};
 
 impl<H: Files> SystemCalls<H> {
-    /// Writes a file with these bytes, in place of those that a file at the path has. A failure leaves any part of it.
+    /// Writes a file with these bytes, replacing those of a file that is there. An error may leave any part of them.
     pub(crate) fn write(&mut self, path: &str, bytes: &[u8]) -> Result<(), DeviceFault>
         ensures { self.new
             ≡ self.old ++ (step.Write path.now bytes.now, is_ok result) ∷ [] }
@@ -26,7 +26,8 @@ impl<H: Files> SystemCalls<H> {
         outcome
     }
 
-    /// The same, of a file that everybody may read and its owner may write (mode 0644), if the system sets modes.
+    /// Writes a file as `write` does, that everybody may read and its owner may write (mode 0644), if the system can
+    /// set modes.
     pub(crate) fn write_shown(&mut self, path: &str, bytes: &[u8]) -> Result<(), DeviceFault>
         ensures { self.new
             ≡ self.old ++ (step.Write path.now bytes.now, is_ok result) ∷ [] }
@@ -36,8 +37,8 @@ impl<H: Files> SystemCalls<H> {
         outcome
     }
 
-    /// Writes a new file with these bytes. `Taken`: something is at the path, also a link to nowhere. Another failure
-    /// leaves any part of it.
+    /// Writes a new file with these bytes. `Taken` means that something is at the path, even a broken link. Any other
+    /// error may leave any part of the bytes.
     pub(crate) fn write_new(&mut self, path: &str, bytes: &[u8]) -> Result<(), DeviceFault>
         ensures { self.new
             ≡ self.old ++ (step.Write path.now bytes.now, is_ok result) ∷ [] }
@@ -47,7 +48,7 @@ impl<H: Files> SystemCalls<H> {
         outcome
     }
 
-    /// Has what the file at the path has outlast a crash. `NotPlain`: something else than a plain file is there.
+    /// Syncs the file at the path. `NotPlain` means that something else than a plain file is there.
     pub(crate) fn sync(&mut self, path: &str) -> Result<(), DeviceFault>
         ensures { self.new ≡ self.old ++ (step.Sync path.now, is_ok result) ∷ [] }
     {
@@ -65,7 +66,7 @@ impl<H: Files> SystemCalls<H> {
         outcome
     }
 
-    /// Puts the file at the first path at the second, in place of what is there.
+    /// Renames the file at the first path to the second, replacing what is there.
     pub(crate) fn rename(&mut self, from: &str, to: &str) -> Result<(), DeviceFault>
         ensures { self.new
             ≡ self.old ++ (step.Rename from.now to.now, is_ok result) ∷ [] }
@@ -76,7 +77,7 @@ impl<H: Files> SystemCalls<H> {
         outcome
     }
 
-    /// Has the names in the folder at the path outlast a crash.
+    /// Syncs the names in the folder at the path.
     pub(crate) fn sync_folder(&mut self, path: &str) -> Result<(), DeviceFault>
         ensures { self.new
             ≡ self.old ++ (step.SyncFolder path.now, is_ok result) ∷ [] }
@@ -86,8 +87,8 @@ impl<H: Files> SystemCalls<H> {
         outcome
     }
 
-    /// Makes a folder at the path, in which everybody may read (mode 0755), if the system sets modes. `NotThere`: the
-    /// folder above it isn't there. `Taken`: something is at the path.
+    /// Makes a folder at the path that everybody may read (mode 0755), if the system can set modes. `NotThere` means
+    /// that the folder above it isn't there, `Taken` that something is at the path.
     pub(crate) fn make_folder(&mut self, path: &str) -> Result<(), DeviceFault>
         ensures { self.new
             ≡ self.old ++ (step.MakeFolder path.now, is_ok result) ∷ [] }
@@ -97,8 +98,8 @@ impl<H: Files> SystemCalls<H> {
         outcome
     }
 
-    /// Puts the folder at the first path at the second, with all that is in it, and has that outlast a crash.
-    /// `NotThere`: nothing is at the first path. A failure may have done it all the same, and a crash may undo it then.
+    /// Moves the folder at the first path to the second, with all that is in it, and syncs that. `NotThere` means
+    /// that nothing is at the first path. An error may have moved it all the same, and a crash may then undo that.
     pub(crate) fn move_away(&mut self, from: &str, to: &str) -> Result<(), DeviceFault>
         ensures { self.new
             ≡ self.old ++ (step.MoveAway from.now to.now, is_ok result) ∷ [] }
@@ -109,7 +110,7 @@ impl<H: Files> SystemCalls<H> {
         outcome
     }
 
-    /// Removes the folder at the path, and all that is in it. A failure leaves any part of it.
+    /// Removes the folder at the path and all that is in it. An error may leave any part of it.
     pub(crate) fn remove_folder(&mut self, alloc: Global, path: &str) -> Result<(), DeviceFault>
         ensures { self.new
             ≡ self.old ++ (step.RemoveFolder path.now, is_ok result) ∷ [] }
@@ -120,7 +121,7 @@ impl<H: Files> SystemCalls<H> {
         outcome
     }
 
-    /// Opens the file at the path in this way, and makes it where there is none.
+    /// Opens the file at the path with these options, and makes it if there is none.
     pub(crate) fn create(
         &mut self,
         how: &OpenOptions,
@@ -140,7 +141,7 @@ impl<H: Files> SystemCalls<H> {
         }
     }
 
-    /// Writes some of the bytes behind what the file has, which is open and was opened by this path.
+    /// Appends some of the bytes to the open file, which was opened by this path.
     pub(crate) fn append(
         &mut self,
         file: &mut OpenedFile<H::File>,
@@ -166,7 +167,7 @@ impl<H: Files> SystemCalls<H> {
         }
     }
 
-    /// Cuts off what is behind so many bytes of the file, which is open and was opened by this path.
+    /// Cuts the open file, which was opened by this path, to its first `count` bytes.
     pub(crate) fn cut(
         &mut self,
         file: &OpenedFile<H::File>,
@@ -181,7 +182,7 @@ impl<H: Files> SystemCalls<H> {
         outcome
     }
 
-    /// Has the bytes of the file, which is open and was opened by this path, outlast a crash.
+    /// Syncs the bytes of the open file, which was opened by this path.
     pub(crate) fn sync_data(
         &mut self,
         file: &OpenedFile<H::File>,
@@ -194,7 +195,7 @@ impl<H: Files> SystemCalls<H> {
         outcome
     }
 
-    /// Has all of the file, which is open and was opened by this path, outlast a crash.
+    /// Syncs the open file, which was opened by this path, with its metadata.
     pub(crate) fn sync_all(
         &mut self,
         file: &OpenedFile<H::File>,
@@ -207,24 +208,25 @@ impl<H: Files> SystemCalls<H> {
         outcome
     }
 
-    /// What the system tells of a path, at the end of links.
+    /// Returns the metadata of what is at a path, with links followed.
     pub(crate) fn metadata(&self, path: &str) -> io::Result<Metadata> {
         self.files.metadata(path)
     }
 
-    /// What the system tells of a path itself, be it a link.
+    /// Returns the metadata of what is at a path, without following a link.
     pub(crate) fn symlink_metadata(&self, path: &str) -> io::Result<Metadata> {
         self.files.symlink_metadata(path)
     }
 
-    /// Opens the folder at a path, and follows links. Anything else there is not opened.
+    /// Opens the folder at a path, following links. Anything else is not opened.
     pub(crate) fn open_folder(&self, path: &str) -> Result<OpenedFile<H::File>, DeviceFault> {
         let file = open_folder(&self.files, path)?;
         Ok(OpenedFile { file })
     }
 
-    /// The bytes of the plain file at a path of which the system told this, `None` where nothing is there. `TooLarge`:
-    /// it has more than `most`. It follows a link if `told` did.
+    /// Returns the bytes of the plain file at a path, given the path's metadata, or `None` if nothing is there.
+    /// `TooLarge` means that it has more than `most`. A symbolic link is followed if the metadata is that of its
+    /// target.
     pub(crate) fn read<A: Allocator>(
         &self,
         alloc: A,

@@ -1,4 +1,4 @@
-//! Syncs of many files or folders, as a disk makes them, and how they are noted.
+//! Syncing many files or folders at once, as a disk does it, and noting the outcomes.
 
 ghost use Rattle.std.specs.Prelude.{◌≡◌, length, map, string_bytes, vec_len, IfOk};
 ghost use Rattle.tl_folder.specs.FileCalls.{Does};
@@ -13,7 +13,7 @@ use std::alloc::{AllocError, Global};
 use std::fs::Files;
 use tl_device::DeviceFault;
 
-// The paths of the files.
+// Returns the paths of the files.
 fn paths_of(alloc: Global, staged: &[Staged]) -> Result<Vec<String>, AllocError> {
     let mut paths = Vec::new(alloc);
     for file in staged {
@@ -22,7 +22,7 @@ fn paths_of(alloc: Global, staged: &[Staged]) -> Result<Vec<String>, AllocError>
     Ok(paths)
 }
 
-// What came of each path, as a disk syncs many.
+// Has the disk sync what is at the paths, and returns the outcomes.
 fn outcomes_of<H: Files, D: SyncsTogether>(
     files: &H,
     disk: &D,
@@ -38,7 +38,7 @@ fn outcomes_of<H: Files, D: SyncsTogether>(
     Ok(outcomes)
 }
 
-// What came of each of the files.
+// Has the disk sync the files, and returns the outcomes.
 fn outcomes_of_files<H: Files, D: SyncsTogether>(
     files: &H,
     disk: &D,
@@ -58,7 +58,7 @@ fn outcomes_of_files<H: Files, D: SyncsTogether>(
     )
 }
 
-// Notes what came of each of the files, up to and with the first that failed, whose fault is the answer.
+// Notes the outcome of each file, up to and including the first failure, whose fault is returned.
 fn note_files(
     log: &mut CallLog,
     staged: &[Staged],
@@ -75,7 +75,7 @@ fn note_files(
     Ok(())
 }
 
-// Notes what came of each of the folders, up to and with the first that failed, whose fault is the answer.
+// Notes the outcome of each folder, up to and including the first failure, whose fault is returned.
 fn note_folders(
     log: &mut CallLog,
     folders: &[String],
@@ -92,11 +92,12 @@ fn note_folders(
     Ok(())
 }
 
-// A sync changes nothing but what it is of. So one that was made and isn't noted, as it came after one that failed, only
-// makes surer what the notes say may be lost; one that failed spoils only a file beside its place, which is written anew
-// before it is ever put there; and after a failure every call of the folder fails.
+// Syncs after the first failure may be made but aren't noted. That is sound, since a sync changes only what it is
+// for. One that succeeded only makes certain what the notes say may be lost. One that failed can spoil only a file
+// beside its place, which is written again before it is put in place. And after a failure every call of the folder
+// fails.
 impl<H: Files> SystemCalls<H> {
-    /// Has what each of the files has outlast a crash.
+    /// Syncs the files.
     pub(crate) fn sync_files<D: SyncsTogether>(
         &mut self,
         disk: &D,
@@ -111,7 +112,7 @@ impl<H: Files> SystemCalls<H> {
         }
     }
 
-    /// Has the names in each of the folders outlast a crash.
+    /// Syncs the names in the folders.
     pub(crate) fn sync_folders<D: SyncsTogether>(
         &mut self,
         disk: &D,

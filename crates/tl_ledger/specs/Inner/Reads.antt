@@ -1,4 +1,4 @@
--- What was read of a shelf before a log is opened.
+-- What was read of a shelf to open a log.
 use Rattle.std.specs.Prelude.{◌≡◌, ◌≢◌, ℕ, ◌/◌, ◌%◌, ◌<◌, ◌⊎◌, Bool, true, List, [], map, vec_items, Contains, Some, ⊤}
 use Rattle.std.specs.declared.vec.Vec.{Vec}
 use Rattle.tl_hash.specs.Bytes.{Bytes}
@@ -12,39 +12,39 @@ use Rattle.tl_ledger.specs.OpenFaults.{FailsRead, IsMissing}
 use Rattle.tl_ledger.specs.declared.opened.fault.OpenFault.{OpenFault}
 use Rattle.tl_ledger.specs.declared.opened.fault.OpenFault.TheVariants as opening
 
--- resources with their bytes
+-- the resources with their bytes
 abbrev pub items_of : {A : Type 0} → List (Resource × Vec ℕ A) → List Item
 items_of items = map (λ i. (i.0, vec_items i.1)) items
 
--- none of them is of the resource
+-- none of the items is for the resource
 abbrev pub LacksItem : List Item → Resource → Type 0
 LacksItem items r = (text : Bytes) → Contains items (r, text) → ⊥
 
--- one of them is
+-- one of the items is for the resource
 abbrev pub HasItem : List Item → Resource → Type 0
 HasItem items r = (text : Bytes) × Contains items (r, text)
 
--- the bytes of each are those that are there
+-- the bytes of each item are those that are there
 abbrev pub AreThere : Held → List Item → Type 0
 AreThere held items = (r : Resource) (text : Bytes) → Contains items (r, text) → held r ≡ Some text
 
--- the same, where the shelf is honest
+-- if the shelf is honest, the bytes of each item are those that are there
 abbrev pub AreHeld : Bool → Held → List Item → Type 0
 AreHeld honest held items = honest ≡ true → AreThere held items
 
--- the partial tile of this level is among them, where there is one
+-- the partial tile of this level is among the items, if there is one
 abbrev pub HasLevel : ℕ → ℕ → List Item → Type 0
 HasLevel size level items = 0 < (partial_tile size level).width → HasItem items (resource.Tile (partial_tile size level))
 
--- and those of all levels below this one
+-- the partial tile of each level below this one is among the items, if there is one
 abbrev pub HasLevels : ℕ → ℕ → List Item → Type 0
 HasLevels size below items = (level : ℕ) → level < below → HasLevel size level items
 
--- the partial bundle of the size is among them, where there is one
+-- the partial bundle of the size is among the items, if there is one
 abbrev pub HasBundle : ℕ → List Item → Type 0
 HasBundle size items = 0 < size % 256 → HasItem items (resource.Entries (size / 256) (size % 256))
 
--- all partial tiles of the size are among them, and the partial bundle
+-- all partial tiles of the size and its partial bundle are among the items
 abbrev pub HasPartials : ℕ → List Item → Type 0
 HasPartials size items = (r : Resource) → IsPartial size r → HasItem items r
 
@@ -53,13 +53,13 @@ abbrev pub ReadsOther : List Item → ℕ → Bytes → Type 0
 ReadsOther items size bytes =
     (text : Bytes) × Contains items (resource.Entries (size / 256) (size % 256), text) × (text ≢ bytes)
 
--- these bytes were read for the partial bundle of the size; none where there is none
+-- these bytes were read for the partial bundle of the size; there are none if it has none
 abbrev pub IsBundleRead : List Item → ℕ → Bytes → Type 0
 IsBundleRead items size bytes =
     ((size % 256 ≡ 0) × (bytes ≡ []))
     ⊎ ((0 < size % 256) × Contains items (resource.Entries (size / 256) (size % 256), bytes))
 
--- more was read
+-- more was read, and what was read before is kept
 pub record ReadsOn (honest : Bool) (held : Held) (before after : List Item) : Type 0 where
   pub keeps : (i : Item) → Contains before i → Contains after i
   pub still : AreHeld honest held before → AreHeld honest held after

@@ -1,4 +1,4 @@
--- The parts of a log that is opened.
+-- The parts of opening a log.
 use Rattle.std.specs.Prelude.{◌≡◌, ◌≢◌, ℕ, ◌*◌, ◌/◌, ◌⊎◌, Bool, List, length, drop, Err, ⊤}
 use Rattle.sha2.specs.Sha256.{sha256}
 use Rattle.tl_hash.specs.Bytes.{Bytes}
@@ -26,7 +26,7 @@ use Rattle.tl_ledger.specs.declared.opened.fault.OpenFault.TheVariants as openin
 
 -- ---- the checkpoint
 
--- why a note gave no size and root
+-- why a note states no size and root
 abbrev pub StatesNone : Type 0 → Bytes → List Key → OpenFault → Type 0
 StatesNone A note keys opening.Checkpoint = (why : OpenCheckpointFault) × (why ≢ unopened.OutOfMemory) × OpensCheckpoint {A = A} note keys (Err why)
 StatesNone A note keys opening.OtherLog = IsOfOther keys note
@@ -48,18 +48,18 @@ FindsNone honest held may_fail keys opening.OutOfMemory = ⊤
 
 -- ---- the right edge and the bundle
 
--- the log has this size and this root
+-- the log has this size and root
 abbrev pub IsLogAt : Head → List Bytes → Type 0
 IsLogAt head log = (length log ≡ head.size) × (tree_hash sha256 log ≡ head.root)
 
--- these bytes are the partial bundle of each log of this size and root, or inputs collide
+-- these bytes are the partial bundle of every log of this size and root, or inputs of the hash collide
 abbrev pub IsBundleOf : Head → List Bytes → List (Tile × Bytes) → Bytes → Type 0
 IsBundleOf head entries fetched bytes =
     (log : List Bytes) → IsLogAt head log
     → (bytes ≡ bundle_text (drop (length log / 256 * 256) log))
     ⊎ (LeavesCollide sha256 entries log ⊎ TilesCollide sha256 (tiles_of fetched) head.size log)
 
--- why a part was not restored, by what was read and fetched
+-- why a part was not restored, given what was read and fetched
 abbrev pub PartFails : (Resource → Bytes → Type 0) → Head → List (Tile × Bytes) → List (Tile × Bytes) → OpenFault → Type 0
 PartFails answers head edge_tiles entry_tiles opening.Checkpoint = ⊥
 PartFails answers head edge_tiles entry_tiles opening.OtherLog = ⊥
@@ -69,18 +69,18 @@ PartFails answers head edge_tiles entry_tiles (opening.Damaged r) = IsDamaged an
 PartFails answers head edge_tiles entry_tiles (opening.Shelf fault) = ⊥
 PartFails answers head edge_tiles entry_tiles opening.OutOfMemory = ⊤
 
--- a ledger of this size and root, by what was found
+-- the ledger is that of every log of this size and root, or inputs of the hash collide
 pub record Restores (head : Head) (found : Found) (ledger : Ledger) : Type 0 where
   pub sized : ledger.edge.size ≡ head.size
   pub stands : (log : List Bytes) → IsLogAt head log → IsStanding sha256 log ledger ⊎ FoundCollides sha256 found log
 
--- it stands at each log of this size, where what was read is there, and all that the log needs
+-- the ledger is that of every log of this size, if what was read is there with all that the log needs
 abbrev pub StandsWhereRead : List Item → ℕ → Ledger → Type 0
 StandsWhereRead items size ledger =
     (held : Held) → AreThere held items → (log : List Bytes) → length log ≡ size → HasAll sha256 log held
     → IsStanding sha256 log ledger
 
--- why a log of this size and root was not opened, by what was found
+-- why a log of this size and root was not opened, given what was read
 abbrev pub HeadFails : Bool → Held → (Resource → ShelfFault → Type 0) → Head → Found → OpenFault → Type 0
 HeadFails honest held may_fail head found opening.Checkpoint = ⊥
 HeadFails honest held may_fail head found opening.OtherLog = ⊥

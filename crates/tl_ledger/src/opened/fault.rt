@@ -11,26 +11,26 @@ use tl_tile::Resource;
 /// Why a log that is on a shelf was not opened.
 #[derive(Clone, Copy, Debug, PartialEq, Eq, Error)]
 pub enum OpenFault {
-    /// The checkpoint's bytes are no note that opens under the verifiers, with a checkpoint's text (C2SP
+    /// The checkpoint is no note that opens with the verifiers, or its text isn't a checkpoint's (C2SP
     /// tlog-checkpoint).
     #[error("the checkpoint does not open")]
     Checkpoint,
-    /// The checkpoint's origin is the name of none of the keys (C2SP tlog-checkpoint): it is of another log.
+    /// The checkpoint is of another log: its origin is the name of none of the keys (C2SP tlog-checkpoint).
     #[error("the checkpoint is of another log")]
     OtherLog,
     /// The checkpoint states more than 2^32 - 1 entries.
     #[error("the log is too large")]
     TooLarge,
-    /// A partial tile or the partial bundle of the log isn't there.
+    /// A partial tile or the partial bundle of the log is missing.
     #[error("a resource of the log is missing")]
     Missing(Resource),
-    /// A tile or the bundle isn't the one that the checkpoint's root was made with.
+    /// The tile or bundle isn't the one that the checkpoint's root was computed from.
     #[error("a resource of the log is damaged")]
     Damaged(Resource),
     /// The shelf failed.
     #[error("{0}")]
     Shelf(ShelfFault),
-    /// A growth was refused.
+    /// Allocation failed.
     #[error("out of memory")]
     OutOfMemory,
 }

@@ -1,4 +1,4 @@
-//! What was read of a log where it was opened.
+//! What was read of a log to open it.
 
 ghost use Rattle.std.specs.Prelude.{◌≡◌, [], None};
 
@@ -7,17 +7,17 @@ use std::marker::Model;
 use tl_hash::Head;
 use tl_tile::FetchedTiles;
 
-/// What was read of a log where it was opened. A ledger that stands at another log than that of the checkpoint shows
-/// here which inputs collide.
+/// What was read of a log to open it. If a ledger isn't that of the checkpoint's log, two different inputs of the
+/// hash collide, and one of them can be found here.
 #[derive(Drop)]
 pub struct Found<A: Allocator> {
-    /// The size and the root of its checkpoint, where it has one.
+    /// The size and root of the log's checkpoint, if it has one.
     pub head: Option<Head>,
-    /// The partial tiles, from which the right edge was made.
+    /// The partial tiles from which the right edge was restored.
     pub edge_tiles: FetchedTiles<A>,
     /// The entries of the partial bundle.
     pub entries: Vec<Vec<u8, A>, A>,
-    /// The tiles against which these were checked.
+    /// The tiles by which these entries were checked.
     pub entry_tiles: FetchedTiles<A>,
 }
 
@@ -36,7 +36,7 @@ impl<A: Allocator> Model for Found<A> {
 }
 
 impl<A: Allocator + Copy> Found<A> {
-    /// Nothing was found. It takes no memory.
+    /// Returns an empty value. It allocates nothing.
     pub fn new(alloc: A) -> Found<A>
         ensures { result ≡ record { head = None; edge_tiles = []; entries = []; entry_tiles = [] } }
     {

@@ -1,4 +1,4 @@
-//! The checkpoint of a log that is on a shelf.
+//! Reading the checkpoint of a log that is on a shelf.
 
 ghost use Rattle.std.specs.Prelude.{◌≡◌, ◌<◌, ◌^◌, map, true, IfOk, IfErr};
 ghost use Rattle.tl_ledger.specs.Opening.{IsOfHeld, IsOfNote, IsOfSigned, found_size};
@@ -16,7 +16,7 @@ use tl_tile::Resource;
 
 const MOST_ENTRIES: u64 = 0xFFFF_FFFF;
 
-/// The size and the root that the checkpoint of a note states, whose origin is the name of one of the keys.
+/// Returns the size and root that a note's checkpoint states, if its origin is the name of one of the keys.
 pub(crate) fn stated<A: Allocator + Copy>(
     alloc: A,
     note: &str,
@@ -43,7 +43,7 @@ pub(crate) fn stated<A: Allocator + Copy>(
     })
 }
 
-/// The size and the root that the checkpoint on a shelf states, `None` where there is none.
+/// Returns the size and root that the checkpoint on the shelf states, or `None` if there is no checkpoint.
 pub(crate) fn find_head<S: Shelf, A: Allocator + Copy>(
     alloc: A,
     shelf: &S,

@@ -1,19 +1,19 @@
-//! The name of a log, which is that of its key.
+//! Whether a checkpoint is of the log that the keys belong to.
 
 ghost use Rattle.std.specs.Prelude.{◌≡◌, ◌↔◌, map, IsTrue};
 ghost use Rattle.tl_ledger.specs.Opening.{IsNamed};
 
 use tl_note::Verifier;
 
-// Whether the verifier has this name.
+// Reports whether the verifier has this name.
 fn has_name(verifier: &Box<dyn Verifier>, name: &str) -> bool
     ensures { IsTrue result ↔ ((key verifier.now).name ≡ name.now) }
 {
     verifier.name() == name
 }
 
-/// Whether one of the verifiers has this name: the checkpoint of which this is the origin is of the log that the keys
-/// are of (C2SP tlog-checkpoint). It takes no memory.
+/// Reports whether one of the verifiers has this name. If the name is a checkpoint's origin, the checkpoint is then
+/// of the log that the verifiers belong to (C2SP tlog-checkpoint). It allocates nothing.
 pub fn is_named(verifiers: &[Box<dyn Verifier>], name: &str) -> bool
     ensures { IsTrue result ↔ IsNamed (map (λ v. key v) verifiers.now) name.now }
 {

@@ -13,7 +13,7 @@ use std::alloc::Allocator;
 use tl_archive::Shelf;
 use tl_tile::{Resource, Tile};
 
-// Reads a resource that a log of this size needs, and keeps its bytes behind the others.
+// Reads a resource that a log of this size needs, and appends it with its bytes to `read`.
 fn read_one<S: Shelf, A: Allocator + Copy>(
     alloc: A,
     shelf: &S,
@@ -37,7 +37,7 @@ fn read_one<S: Shelf, A: Allocator + Copy>(
     Ok(())
 }
 
-// The partial tile of a level of a log of this size. Its width may be 0.
+// Returns the partial tile of a level of a log of this size. Its width may be 0.
 fn partial_of(size: u64, level: u32) -> Tile
     requires { level < 8 }
     ensures { result ≡ partial_tile size level }
@@ -50,7 +50,7 @@ fn partial_of(size: u64, level: u32) -> Tile
     }
 }
 
-// Reads the partial tile of a level, where there is one.
+// Reads the partial tile of a level, if there is one.
 fn read_level<S: Shelf, A: Allocator + Copy>(
     alloc: A,
     shelf: &S,
@@ -73,7 +73,7 @@ fn read_level<S: Shelf, A: Allocator + Copy>(
     Ok(())
 }
 
-/// The partial bundle of a log of this size.
+/// Returns the partial bundle of a log of this size. Its width may be 0.
 pub(crate) fn last_bundle(size: u64) -> Resource
     ensures { result ≡ resource.Entries (size / 256) (size % 256) }
 {
@@ -83,7 +83,7 @@ pub(crate) fn last_bundle(size: u64) -> Resource
     }
 }
 
-// Reads the partial bundle, where there is one.
+// Reads the partial bundle, if there is one.
 fn read_last<S: Shelf, A: Allocator + Copy>(
     alloc: A,
     shelf: &S,
@@ -103,7 +103,7 @@ fn read_last<S: Shelf, A: Allocator + Copy>(
     Ok(())
 }
 
-/// Reads the partial tiles of a log of this size, and its partial bundle: at most five resources, each once.
+/// Reads the partial tiles and the partial bundle of a log of this size: at most five resources, each once.
 pub(crate) fn read_partials<S: Shelf, A: Allocator + Copy>(
     alloc: A,
     shelf: &S,

@@ -1,4 +1,4 @@
-//! The right edge and the partial bundle of a log, from what was read of a shelf.
+//! Restoring the right edge and the partial bundle of a log from what was read.
 
 ghost use Rattle.std.specs.Prelude.{◌≡◌, ◌<◌, ◌≤◌, ◌/◌, ◌%◌, ◌^◌, ◌⊎◌, List, length, map, vec_items, Contains, MatchBool, IfOk, IfErr};
 ghost use Rattle.sha2.specs.Sha256.{sha256};
@@ -24,7 +24,7 @@ use tl_hash::{Head, Sha256Tree};
 use tl_store::ReadFault;
 use tl_tile::{BundleFault, Edge, FetchedTiles, Resource, Tile, write_bundle};
 
-/// The right edge of a log of this size and root, from the partial tiles that were read.
+/// Restores the right edge of a log of this size and root from the partial tiles that were read.
 pub(crate) fn restore_edge<A: Allocator + Copy>(
     alloc: A,
     source: &ShelfSource<A>,
@@ -63,7 +63,7 @@ pub(crate) fn restore_edge<A: Allocator + Copy>(
     }
 }
 
-// The entries of the partial bundle, checked against the size and the root.
+// Returns the entries of the partial bundle, checked against the size and root.
 fn restore_entries<A: Allocator + Copy>(
     alloc: A,
     source: &ShelfSource<A>,
@@ -102,7 +102,7 @@ fn restore_entries<A: Allocator + Copy>(
     }
 }
 
-// The bytes of the bundle of these entries.
+// Encodes these entries as a bundle.
 fn bundle_of<A: Allocator + Copy>(
     alloc: A,
     entries: &[Vec<u8, A>],
@@ -119,7 +119,7 @@ fn bundle_of<A: Allocator + Copy>(
     }
 }
 
-// Whether the bytes are those that were read for the partial bundle.
+// Reports whether these are the bytes that were read for the partial bundle.
 fn was_read<A: Allocator>(source: &ShelfSource<A>, size: u64, bytes: &[u8]) -> bool
     requires part { 0 < size % 256 }
     requires all { HasPartials size source.now }
@@ -133,8 +133,8 @@ fn was_read<A: Allocator>(source: &ShelfSource<A>, size: u64, bytes: &[u8]) -> b
     }
 }
 
-/// The partial bundle of a log of this size and root, from the bytes that were read, and its entries, which were
-/// checked.
+/// Returns the bytes of the partial bundle of a log of this size and root. Its entries are checked and put into
+/// `entries`.
 pub(crate) fn restore_bundle<A: Allocator + Copy>(
     alloc: A,
     source: &ShelfSource<A>,

@@ -1,4 +1,4 @@
-//! What was read of a shelf, as a source of a log's resources.
+//! What was read of a shelf, as a source of resources.
 
 ghost use Rattle.std.specs.Prelude.{◌≡◌, ◌↔◌, ◌∷◌, ◌++◌, [], IsTrue, Contains, MatchOption, OnOk};
 ghost use Rattle.tl_ledger.specs.Inner.Reads.{LacksItem, items_of};
@@ -8,7 +8,7 @@ use std::marker::Model;
 use tl_client::ResourceSource;
 use tl_tile::{Resource, SourceFault};
 
-// Whether two resources are the same.
+// Reports whether two resources are the same.
 fn is_same(a: &Resource, b: &Resource) -> bool
     ensures { IsTrue result ↔ (a.now ≡ b.now) }
 {
@@ -28,7 +28,7 @@ fn is_same(a: &Resource, b: &Resource) -> bool
     }
 }
 
-// The bytes of a resource, where it is among these.
+// Returns the bytes of a resource if it is among these.
 fn text_in<'i, A: Allocator>(
     items: &'i [(Resource, Vec<u8, A>)],
     resource: &Resource,
@@ -44,8 +44,8 @@ fn text_in<'i, A: Allocator>(
     None
 }
 
-/// The resources that were read of a shelf, as a source: each is read once, so that all checks are of the same bytes.
-/// Contracts see the list of the resources with their bytes.
+/// The resources that were read of a shelf, as a source. Each is read only once, so all checks see the same bytes.
+/// Contracts see the list of resources with their bytes.
 #[derive(Drop)]
 pub(crate) struct ShelfSource<A: Allocator> {
     items: Vec<(Resource, Vec<u8, A>), A>,
@@ -62,7 +62,7 @@ impl<A: Allocator> Model for ShelfSource<A> {
 }
 
 impl<A: Allocator> ShelfSource<A> {
-    /// Nothing was read.
+    /// Returns an empty source.
     pub(crate) fn new(alloc: A) -> ShelfSource<A>
         ensures { result ≡ [] }
     {
@@ -71,7 +71,7 @@ impl<A: Allocator> ShelfSource<A> {
         }
     }
 
-    /// Puts a resource with its bytes behind the others.
+    /// Appends a resource with its bytes.
     pub(crate) fn push(
         &mut self,
         resource: Resource,
@@ -82,7 +82,7 @@ impl<A: Allocator> ShelfSource<A> {
         self.items.push((resource, bytes))
     }
 
-    /// The bytes of a resource, where it is among these.
+    /// Returns the bytes of a resource if it was read.
     pub(crate) fn text_of(&self, resource: &Resource) -> Option<&[u8]>
         ensures { MatchOption result (LacksItem self.now resource.now)
             (λ text. Contains self.now (resource.now, text.now)) }
@@ -96,7 +96,7 @@ impl<A: Allocator> ResourceSource for ShelfSource<A> {
 
     ghost may_lack = { λ s r. LacksItem s r };
 
-    /// The bytes that were read.
+    /// Returns a copy of the bytes that were read, or `Unavailable` if there are none.
     fn get<B: Allocator>(&self, alloc: B, resource: &Resource) -> Result<Vec<u8, B>, SourceFault> {
         match self.text_of(resource) {
             Some(text) => Ok(Vec::from_slice(alloc, text)?),

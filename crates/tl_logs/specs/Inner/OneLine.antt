@@ -9,7 +9,7 @@ use Rattle.tl_witness.specs.ReadChain.{IsLineOf}
 use Rattle.tl_witness.specs.declared.chain_reading.ChainFault.{ChainFault}
 use Rattle.tl_witness.specs.declared.chain_reading.ChainFault.TheVariants.{Malformed, OutOfMemory}
 
--- the link and the origin of a line of these words, or the words are of no line
+-- the origin and link whose line has these words, or that no line has them
 abbrev pub ReadsLink : {A : Type 0} → Bytes → Result (String A × Link A) ChainFault → Type 0
 ReadsLink words (Ok (origin, link)) = IsLineOf words (string_bytes origin) (step_of link)
 ReadsLink words (Err (Malformed place)) = (l : ChainLine) → IsChainLine l → words ≢ chain_words l

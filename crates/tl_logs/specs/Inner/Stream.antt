@@ -12,14 +12,14 @@ use Rattle.tl_logs.specs.declared.taking.LinkFault.TheVariants as fault
 use Rattle.tl_logs.specs.declared.state_fault.StateFault.{StateFault}
 use Rattle.tl_logs.specs.declared.state_fault.StateFault.TheVariants.{Broken, OutOfMemory}
 
--- what was read so far: the heads that the lines that count lead to, how many lines were taken, and the bytes that came of
--- the next one
+-- what was read so far: the heads that the counting lines lead to, the number of lines, and the bytes of the next
+-- line that have come
 pub record SoFar : Type 0 where
   pub heads : List OriginHead
   pub line : ℕ
   pub begun : Bytes
 
--- this was read, of which that is known
+-- this input was read, and s is what was read so far
 pub record HasRead (H : Digest) (counts : Counts) (s : SoFar) (input : Bytes) : Type 0 where
   pub lines : List ChainLine
   pub lawful : AreLawful H counts lines
@@ -29,18 +29,18 @@ pub record HasRead (H : Digest) (counts : Counts) (s : SoFar) (input : Bytes) : 
   pub joined : input ≡ chain_text lines ++ s.begun
   pub one_line : IsInOneLine s.begun
 
--- these bytes are taken behind that input, or the state is refused, behind which others come
+-- the input with these bytes is what was read so far; or the input with these bytes and those after is refused
 abbrev pub TakesBytes : Digest → Counts → SoFar → Bytes → Bytes → Bytes → Result (Unit {0}) StateFault → Type 0
 TakesBytes H counts new input taken after (Ok done) = HasRead H counts new (input ++ taken)
 TakesBytes H counts new input taken after (Err fault) = RefusesBytes H counts (input ++ taken ++ after) fault
 
--- some of these bytes are taken, the rest is left
+-- some of these bytes are read, and the rest is left
 pub record TookSome (H : Digest) (counts : Counts) (new : SoFar) (input bytes rest : Bytes) : Type 0 where
   pub taken : Bytes
   pub cut : bytes ≡ taken ++ rest
   pub read : HasRead H counts new (input ++ taken)
 
--- a link is kept as the last one of its origin if that counts
+-- a link is taken as the last one of its origin, if that origin counts
 abbrev pub KeepsLink : Digest → Counts → Bytes → Step → SoFar → SoFar → Result (Unit {0}) StateFault → Type 0
 KeepsLink H counts origin step old new (Ok done) =
     ((counts origin ≡ false) × (new.heads ≡ old.heads))
@@ -49,7 +49,7 @@ KeepsLink H counts origin step old new (Err (Broken place)) = (place ≡ old.lin
 KeepsLink H counts origin step old new (Err OutOfMemory) = ⊤
 KeepsLink H counts origin step old new (Err fault) = ⊥
 
--- what comes of a link that was taken or not, behind so many lines
+-- the outcome of a link that is taken or not, at this line
 abbrev pub link_outcome : Result (Unit {0}) LinkFault → ℕ → Result (Unit {0}) StateFault
 link_outcome (Ok done) line = Ok done
 link_outcome (Err fault.Broken) line = Err (Broken line)

@@ -1,4 +1,4 @@
--- Steps of attaching the lines of witnesses.
+-- The steps of attaching the lines of witnesses.
 use Rattle.std.specs.Prelude.{◌≡◌, ℕ, List, ◌++◌, Result, Ok, Err, Some, slice_get}
 use Rattle.std.specs.Global.{Vec}
 use Rattle.std.specs.List.{AllZip, flat_map}
@@ -11,12 +11,12 @@ use Rattle.tl_log.specs.Histories.{Prefix}
 use Rattle.tl_publisher.specs.Operating.{Operated}
 use Rattle.tl_publisher.specs.Proposing.{IsCosigned, AreTooFew}
 
--- the bytes, and the lines that were found behind them
+-- `whole` is the note followed by the lines that were found
 abbrev pub HasBehind : List ℕ → List Signature → List Cosigned → List ℕ → Type 0
 HasBehind note lines found whole =
     (kept : List Signature) × AllZip (λ c line. slice_get lines c.line ≡ Some line) found kept × (whole ≡ note ++ flat_map signature_line kept)
 
--- the lines of a text, or why there are none
+-- the signature lines of a text, or why there are none
 abbrev pub CutsLines : List ℕ → Result (Vec Signature) AttachFault → Type 0
 CutsLines text (Ok lines) = AreLines text lines.items
 CutsLines text (Err attach.Malformed) = (lines : List Signature) → AreLines text lines → ⊥

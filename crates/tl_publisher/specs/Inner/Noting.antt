@@ -10,11 +10,11 @@ use Rattle.tl_publisher.specs.declared.fault.PublishFault.{PublishFault}
 use Rattle.tl_publisher.specs.declared.fault.PublishFault.TheVariants.{NothingNew, Sign, Quorum, OutOfMemory}
 use Rattle.tl_publisher.specs.Signed.{IsSignedNote, no_quorum}
 
--- the text of the checkpoint with this size and root
+-- the text of the checkpoint of this size and root
 abbrev pub text_of_head : List ℕ → ℕ → List ℕ → List ℕ
 text_of_head origin size root = checkpoint_text (record { origin = origin; size = size; root = root; extensions = [] })
 
--- the note of a checkpoint, or the signer that gave no signature
+-- the signed note of a checkpoint, or the position of a signer that gave no signature
 abbrev pub NotesHead : List ℕ → List SigningKey → ℕ → List ℕ → Result (String Global) PublishFault → Type 0
 NotesHead origin signers size root (Ok note) = IsSignedNote signers no_quorum (text_of_head origin size root) (string_bytes note)
 NotesHead origin signers size root (Err NothingNew) = ⊥
@@ -28,7 +28,7 @@ IsSignFault (note.Sign place) = ⊤
 IsSignFault note.OutOfMemory = ⊤
 IsSignFault fault = ⊥
 
--- the same fault of a publication
+-- the fault of a publication that the fault of signing becomes
 abbrev pub AsPublishFault : NoteFault → PublishFault → Type 0
 AsPublishFault (note.Sign place) fault = fault ≡ Sign place
 AsPublishFault note.OutOfMemory fault = fault ≡ OutOfMemory

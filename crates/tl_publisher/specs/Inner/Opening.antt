@@ -1,4 +1,4 @@
--- Opening an operator, once nothing is wrong with what was asked.
+-- Opening an operator, once its arguments are valid.
 use Rattle.std.specs.Prelude.{◌≡◌, ℕ, List, [], None, ⊤}
 use Rattle.tl_note.specs.Key.{SigningKey}
 use Rattle.tl_publisher.specs.Signed.{no_quorum}
@@ -6,13 +6,13 @@ use Rattle.tl_publisher.specs.Operating.{Operated}
 use Rattle.tl_publisher.specs.declared.fault.OperatorFault.{OperatorFault}
 use Rattle.tl_publisher.specs.declared.fault.OperatorFault.TheVariants.{Place, OutOfMemory}
 
--- a place or memory was refused
+-- there is no place for a reader, or memory ran out
 abbrev pub IsWant : OperatorFault → Type 0
 IsWant Place = ⊤
 IsWant OutOfMemory = ⊤
 IsWant fault = ⊥
 
--- nothing is published under this origin and these keys, nothing is proposed, and no witness must cosign
+-- the operator has this origin and these signers, nothing is published or proposed, and no witness must cosign
 pub record IsBegun {A : Type 0} (words : List ℕ) (keys : List SigningKey) (o : Operated A) : Type 0 where
   pub origin : o.origin ≡ words
   pub signers : o.signers ≡ keys

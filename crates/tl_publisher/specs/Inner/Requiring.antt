@@ -4,6 +4,6 @@ use Rattle.tl_publisher.specs.Signed.{Quorum}
 use Rattle.tl_publisher.specs.Operating.{Operated}
 use Rattle.tl_publisher.specs.Proposing.{IsEarly, MayNeed}
 
--- nothing refuses them
+-- these witnesses can be required
 abbrev pub MayRequire : {A : Type 0} → Operated A → Quorum → Type 0
 MayRequire o q = IsEarly o × MayNeed o q × AreApart q.witnesses

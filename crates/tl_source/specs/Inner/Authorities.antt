@@ -1,4 +1,4 @@
--- What reading an authority finds.
+-- Parsing an authority.
 use Rattle.std.specs.Prelude.{◌≡◌, ◌≢◌, ℕ, ◌⊎◌, [], ◌∷◌, All}
 use Rattle.tl_hash.specs.Bytes.{Bytes}
 use Rattle.tl_source.specs.Url.{IsPort, IsNamed, IsBracketed, IsAuthority}
@@ -19,7 +19,7 @@ HasNoPort text = (port : ℕ) → ¬ (IsPort text port)
 abbrev pub IsNotNamed : Bytes → Type 0
 IsNotNamed text = (host : Bytes) (port : ℕ) → ¬ (IsNamed text host port)
 
--- the text, after a bracket, is no authority with an IPv6 address
+-- a bracket and the text are no authority with an IPv6 address
 abbrev pub IsNotBracketed : Bytes → Type 0
 IsNotBracketed text = (host : Bytes) (port : ℕ) → ¬ (IsBracketed (91 ∷ text) host port)
 

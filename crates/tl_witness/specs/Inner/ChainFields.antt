@@ -14,10 +14,10 @@ HasNoHash text = (hash rest : Bytes) → IsHash hash → text ≢ field (base64_
 abbrev pub HasNoHashes : ℕ → Bytes → Type 0
 HasNoHashes count text = (hashes : List Bytes) (rest : Bytes) → All IsHash hashes → length hashes ≡ count → text ≢ hashes_before hashes rest
 
--- the text begins with so many hashes, each a field
+-- the text begins with `count` fields that are hashes, and this follows
 abbrev pub HasHashes : ℕ → Bytes → Bytes → Type 0
 HasHashes count text rest = (hashes : List Bytes) × AreHashes count text hashes rest
 
--- no line of a link has these words
+-- these words are not those of a link's line
 abbrev pub IsNoChainLine : Bytes → Type 0
 IsNoChainLine words = (l : ChainLine) → IsChainLine l → words ≢ chain_words l

@@ -1,4 +1,4 @@
--- From the body of a request to the place of its origin (C2SP tlog-witness, "add-checkpoint").
+-- From the body of a request to the position of its origin (C2SP tlog-witness, "add-checkpoint").
 use Rattle.std.specs.Prelude.{◌≡◌, ◌≢◌, ℕ, List, Some, slice_get, Result, Ok, Err, ⊤}
 use Rattle.tl_hash.specs.Bytes.{Bytes}
 use Rattle.tl_proof.specs.Acceptance.{step_of}
@@ -12,7 +12,7 @@ use Rattle.tl_witness.specs.ChainLine.{IsChainLine}
 use Rattle.tl_witness.specs.Inner.Offer.{asked_by}
 use Rattle.tl_witness.specs.Request.{Body, IsRequest}
 
--- the body is a request whose note is a checkpoint of the origin at this place, and this is what it asks
+-- the body is a request whose note is a checkpoint of the origin at this position, and this is what it asks
 pub record IsFound {A : Type 0} (body : Bytes) (origins : List Bytes) (found : Found A) : Type 0 where
   pub request : Body
   pub signed : Signed
@@ -26,7 +26,7 @@ pub record IsFound {A : Type 0} (body : Bytes) (origins : List Bytes) (found : F
 abbrev pub IsMalformed : Bytes → Type 0
 IsMalformed body = UnlessSome (IsRequest body) ⊤ (λ request. (signed : Signed) → ¬ (IsSigned request.note signed))
 
--- the body is a request whose note is a checkpoint of another origin
+-- the body is a request whose note is a checkpoint of an origin that isn't among these
 pub record IsOfOther (body : Bytes) (origins : List Bytes) : Type 0 where
   pub request : Body
   pub signed : Signed
@@ -34,7 +34,7 @@ pub record IsOfOther (body : Bytes) (origins : List Bytes) : Type 0 where
   pub note : IsSigned request.note signed
   pub nowhere : (place : ℕ) → slice_get origins place ≢ Some signed.head.origin
 
--- where a body leads
+-- what the search for the origin answers
 abbrev pub FindsOrigin : {A : Type 0} → Bytes → List Bytes → Result (Found A) Unfound → Type 0
 FindsOrigin body origins (Ok found) = IsFound body origins found
 FindsOrigin body origins (Err Malformed) = IsMalformed body

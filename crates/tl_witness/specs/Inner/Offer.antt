@@ -1,4 +1,4 @@
--- What a request that was read asks of its origin.
+-- What a request asks of its origin, once it is read.
 use Rattle.std.specs.Prelude.{ℕ, []}
 use Rattle.tl_hash.specs.Bytes.{Bytes}
 use Rattle.tl_proof.specs.Acceptance.{Step, step_of}
@@ -15,6 +15,6 @@ asked_by offer time = record {
   time = time;
 }
 
--- what is asked once the note's signatures are judged: its lines don't matter any more
+-- what is asked once the signatures are verified: the signature lines no longer matter
 abbrev pub asked_without_lines : ℕ → Step → Bytes → ℕ → Asked
 asked_without_lines old step text time = record { old = old; step = step; text = text; lines = []; time = time }

@@ -1,4 +1,4 @@
--- What came of a request to one origin, where this is the reply.
+-- The outcome of a request to one origin, given the reply.
 use Rattle.std.specs.Prelude.{vec_items}
 use Rattle.tl_witness.specs.declared.reply.Reply.{Reply}
 use Rattle.tl_witness.specs.Decide.{Outcome}

@@ -7,7 +7,7 @@ use Rattle.tl_witness.specs.declared.request.RequestFault.TheVariants.{Malformed
 use Rattle.tl_witness.specs.declared.request.SignedCheckpoint.{SignedCheckpoint}
 use Rattle.tl_witness.specs.Book.{Signed, IsSigned}
 
--- what a signed checkpoint says
+-- the text, signature lines and checkpoint of a signed checkpoint
 abbrev pub signed_of : {A : Type 0} → SignedCheckpoint A → Signed
 signed_of signed = record { text = signed.note.text.now; lines = signed.note.signatures.items; head = head_of signed.checkpoint }
 

@@ -5,7 +5,7 @@ use Rattle.tl_publisher.proofs.Pieces.{piece_within, had_full, had_part, had_non
 use Rattle.tl_publisher.proofs.lookup.had_piece.Goals as goal
 use Rattle.tl_publisher.proofs.lookup.had_piece.Goals.{then-level-gt7-via-then-level-gt7, then-level-gt7-via-else-level-gt7+then-width-eq0, then-level-gt7-via-else-level-gt7+else-width-eq0+then-width-gt256}
 
--- what cannot be is rightly denied
+-- what can't be there is rightly reported as not there
 denied : {P : Type 0} → (P → ⊥) → IsTrue false ↔ P
 denied none = ((λ wrong. absurd (true≢false (sym wrong))), (λ has. absurd (none has)))
 

@@ -5,7 +5,7 @@ use Rattle.tl_publisher.proofs.Runs.{grown_next, grown_four, short_at}
 use Rattle.tl_publisher.proofs.run.take_some.Goals as goal
 use Rattle.tl_publisher.proofs.run.take_some.Goals.{in_default-2-via-in-Some+in-Some+in_default, in_default-2-via-in-Some+in_default, in_default-2-via-in_default}
 
--- where nothing is, the list has ended
+-- a position without an entry is past the end of the list
 ended_at : {X : Type 0} (n : ℕ) (xs : List X) → None ≡ slice_get xs n → length xs ≤ n
 ended_at n [] at = omega arith
 ended_at zero (x ∷ xs) at = absurd (cc)
