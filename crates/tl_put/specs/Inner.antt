@@ -1,3 +1,3 @@
--- Private words: what contracts of private functions and proofs need.
+-- Definitions for the contracts of private functions and for proofs.
 pub
     mod Sendings
