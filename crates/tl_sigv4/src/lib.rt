@@ -1,7 +1,18 @@
-//! Requests signed as AWS Signature Version 4 says, for servers of the S3 kind ("Signature Calculations for the
-//! Authorization Header: Transferring Payload in a Single Chunk (AWS Signature Version 4)").
+//! Signs requests to S3-compatible servers by AWS Signature Version 4 ("Signature Calculations for the Authorization
+//! Header: Transferring Payload in a Single Chunk (AWS Signature Version 4)").
+//!
+//! A server of this kind knows who sends a request by the field `Authorization`, which carries a signature of the
+//! method, the path, the query, the fields and the body's digest. The signing key comes from the secret of a
+//! `Credential` and is good for one day, one region and one service; the `Moment` gives that day and the request's
+//! time.
+//!
+//! To sign, put the request into a `Request` with its fields in canonical form, which `is_canonical` checks: names in
+//! lower case and in order, each once, and trimmed values. `authorization` returns the value of `Authorization`. Then
+//! send the request exactly as it was signed. The steps on the way can be called alone: `canonical_request`,
+//! `string_to_sign`, `signing_key` and `signature`.
 //!
 //! ```
+//! let credential = Credential { id: "AKID", secret: &secret, region: "us-east-1", service: "s3" };
 //! let moment = Moment::from_unix_seconds(1_369_353_600).unwrap(); // 24 May 2013
 //! let payload = payload_digest(alloc, b"")?;
 //! let request = Request {
@@ -16,7 +27,7 @@
 //!     payload: payload.as_str(),
 //! };
 //! assert!(is_canonical(request.fields));
-//! let value = authorization(alloc, &request, &credential, &moment)?;
+//! let value = authorization(alloc, &request, &credential, &moment)?; // AWS4-HMAC-SHA256 Credential=..
 //! ```
 #![tactic(auto)]
 
