@@ -1,4 +1,4 @@
--- The definitions of asking witnesses about what a log proposes (C2SP tlog-witness, tlog-cosignature).
+-- Asking witnesses to cosign a log's checkpoints (C2SP tlog-witness, tlog-cosignature).
 pub mod Growing
 pub mod Proposing
 pub mod Lines
