@@ -57,7 +57,7 @@ fn line_by<S: ResourceSource, Q: AsksWitness>(
 /// Asks the witness at this place for the line by which one of its keys cosigns the note, in each round until the
 /// ballot ends. After a fault it asks again in the next round, or after 1 second, then 2, 4, up to 60, or sooner if
 /// the ballot is urged. It puts a fault into the ballot unless the last one in a row was in an earlier round and for
-/// the same reason. It skips a note that the log didn't sign. It may wait for other threads.
+/// the same reason. It skips a note that the log didn't sign. It may wait.
 pub fn ask_in_rounds<R: Wait + Clock, S: ResourceSource, Q: AsksWitness>(
     rt: &R,
     alloc: Global,
