@@ -95,9 +95,9 @@ fn put_lines<K: LogSigner, S: Shelf, R: Read, W: Write>(
 
 /// Appends the lines of the input to the log of this ledger on the shelf, and publishes it after each batch and at
 /// the end, at least once, under a note of its checkpoint by the key, whose name is the log's. A publication is put
-/// alone or with what the next batch adds. Its size is then marked, spent partial tiles are removed unless they are
-/// kept, and size and root are printed. Memory holds one batch and the ledger. `Operator`: the log would have more
-/// than 2^32 - 1 entries.
+/// alone or with what the next batch adds. Its size is then marked, spent partial tiles are removed unless kept, and
+/// size and root are printed. Memory holds one batch and the ledger. `Operator`: the log would have more than 2^32 -
+/// 1 entries.
 pub fn append_lines<K: LogSigner, S: Shelf, R: Read, W: Write>(
     alloc: Global,
     key: &K,
