@@ -12,7 +12,7 @@
 //!
 //! `run_append` is the command: it opens the log and appends the lines of an input in batches.
 //!
-//! ```
+//! ```rust
 //! let LogKeys { signer, verifier } = keys_of(&rt, alloc, "example.com/log", &key)?;
 //! let sealer = Cosigners::new(asker, quorum); // or `AsSigned`, if no witness has to cosign
 //! let mut shelf = SealedShelf::new(shelf, store, sealer, false);

@@ -10,7 +10,7 @@
 //! `AskFault` has a variant for each status by which a witness refuses. `question_bytes` returns the body of the
 //! request alone.
 //!
-//! ```
+//! ```rust
 //! // `stream` is a connection to the witness; `proof` leads from size 12 to the size of the checkpoint in `note`.
 //! let mut reader = Counted::new(&stream);
 //! let mut writer = Counted::new(&stream);

@@ -12,7 +12,7 @@
 //! `BucketShelf` is such a bucket as a `Shelf`. Open it and finish what was begun; then use it as a folder, with
 //! `run_append` or `SealedShelf` (`tl_append`). `BucketShelf::reader` opens it for reading alone.
 //!
-//! ```
+//! ```rust
 //! let client = Client::new(&rt, alloc, url, credential);
 //! // `token` is a line that no other run has; `false`: the log is there already
 //! let mut shelf = BucketShelf::open(disk, client, address, token, false)?;

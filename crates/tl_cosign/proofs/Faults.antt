@@ -1,4 +1,4 @@
--- The faults of a witness by its answered lines.
+-- Faults found in the lines that a witness answered with.
 use Rattle.std.proofs.Common.{◌≡◌, ◌⊎◌, inl, inr, subst, sym}
 use Rattle.tl_hash.specs.Bytes.{Bytes}
 use Rattle.tl_hash.specs.declared.head.Head.{Head}

@@ -10,7 +10,7 @@
 //! one note. A thread for each witness runs `ask_in_rounds`, and one thread proposes a note and waits for events:
 //! that a witness gave no line, and why, or that enough lines are there.
 //!
-//! ```
+//! ```rust
 //! let proposed = Proposed { origin: "example.com/log", log: &log, note, head: &head };
 //! let mut asker = HttpWitness { rt, alloc, url, limit };
 //! let mut known = 0; // the size that the witness cosigned last, as far as the caller knows

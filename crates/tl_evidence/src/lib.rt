@@ -8,7 +8,7 @@
 //! `run_check_fork` is the command `check --fork`. It reads the whole input and prints one line: `fork of NAME` if
 //! the input is evidence against the log with this verifier key, and else `refused`.
 //!
-//! ```
+//! ```rust
 //! let mut reader = Counted::new(evidence.as_bytes());
 //! run_check_fork(alloc, "example.com/log+530ac4f8+AQ8e..", &mut reader, &mut writer)?; // `Refused`: no evidence
 //! assert_eq!(writer.into_inner().as_slice(), b"fork of example.com/log\n");

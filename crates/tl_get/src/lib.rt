@@ -9,7 +9,7 @@
 //! a response that isn't clear is a `GetFault`, which says why. Redirects aren't followed, codings aren't decoded and
 //! trailers aren't read. Time limits and TLS are the caller's.
 //!
-//! ```
+//! ```rust
 //! let mut reader = Counted::new(&stream);
 //! let mut writer = Counted::new(&stream);
 //! match get(alloc, &mut reader, &mut writer, "example.com", "/checkpoint", 65_536) {

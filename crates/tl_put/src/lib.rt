@@ -8,7 +8,7 @@
 //!
 //! A put whose answer is lost, or has a status from 500 on, may have been done: get the object, and compare.
 //!
-//! ```
+//! ```rust
 //! let credential = Credential { id: "AKID", secret: &secret, region: "us-east-1", service: "s3" };
 //! let bucket = Bucket { host: "127.0.0.1:7480", prefix: "/logs", credential };
 //! let object = Object { path: "/checkpoint", content_type: "text/plain", cache_control: "no-cache", body: &note };

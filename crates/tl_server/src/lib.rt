@@ -10,7 +10,7 @@
 //! Each call reads one request and writes one answer. Accepting connections, threads and time limits are the
 //! caller's.
 //!
-//! ```
+//! ```rust
 //! let mut reader = Counted::new(&stream);
 //! let mut writer = Counted::new(&stream);
 //! match serve_log(alloc, &mut reader, &mut writer, &mut board) {

@@ -11,7 +11,7 @@
 //! send the request exactly as it was signed. The steps on the way can be called alone: `canonical_request`,
 //! `string_to_sign`, `signing_key` and `signature`.
 //!
-//! ```
+//! ```rust
 //! let credential = Credential { id: "AKID", secret: &secret, region: "us-east-1", service: "s3" };
 //! let moment = Moment::from_unix_seconds(1_369_353_600).unwrap(); // 24 May 2013
 //! let payload = payload_digest(alloc, b"")?;
