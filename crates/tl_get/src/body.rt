@@ -116,7 +116,7 @@ fn read_rest<A: Allocator + Copy, I: Read>(
     }
 }
 
-/// Reads the body that follows a head. `begun` is what came of it with the head.
+/// Reads the body that follows a head. `begun` is the part that came with the head.
 pub(crate) fn read_body<A: Allocator + Copy, I: Read>(
     alloc: A,
     reader: &mut Counted<I>,

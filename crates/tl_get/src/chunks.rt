@@ -137,8 +137,8 @@ fn read_chunk<A: Allocator + Copy, I: Read>(
     Ok(())
 }
 
-/// Reads a chunked body up to the line of its last chunk. `begun` is what came of it with the head. The list grows as
-/// the data come. What follows that line, such as trailers, isn't read: the connection is closed then.
+/// Reads a chunked body up to the line of its last chunk. `begun` is the part that came with the head. The list grows
+/// as the data come. What follows that line, such as trailers, isn't read: the connection is closed then.
 pub(crate) fn read_chunks<A: Allocator + Copy, I: Read>(
     alloc: A,
     reader: &mut Counted<I>,

@@ -18,7 +18,8 @@
 //!     Err(_) => {}                     // why there is no body
 //! }
 //!
-//! let (target, field, statuses) = ("/add", "Content-Type", [200, 409]);
+//! let statuses = [200, 409];
+//! let (target, field) = ("/add", "Content-Type");
 //! let asked = Post { host: "example.com", target, body: b"text", statuses: &statuses, field };
 //! match post(alloc, &mut reader, &mut writer, &asked, 65_536) {
 //!     Ok(reply) => {}                  // status 200 or 409, the value of Content-Type, and the body
@@ -27,7 +28,8 @@
 //! }
 //!
 //! let fields = [FieldLine { name: "host", value: "example.com" }];
-//! let (target, field, statuses) = ("/a", "ETag", [200, 412]);
+//! let statuses = [200, 412];
+//! let (target, field) = ("/a", "ETag");
 //! let message = Message { method: "PUT", target, fields: &fields, body: b"text", statuses: &statuses, field };
 //! let response = exchange(alloc, &mut reader, &mut writer, &message, 65_536)?;
 //! if response.stays_open {}            // the same reader and writer can carry another request

@@ -52,7 +52,7 @@ fn answer_status<A: Allocator + Copy, S: Shelf, O: Write>(
     answer_looked(writer, index, entry, looked)
 }
 
-// Receives the body that a head announces, and submits it as an entry. `part` is what came of it with the head.
+// Receives the body that a head announces, and submits it as an entry. `part` is the part that came with the head.
 fn answer_posted<A: Allocator + Copy, S: Shelf, T: Submits, I: Read, O: Write>(
     alloc: A,
     reader: &mut Counted<I>,

@@ -48,7 +48,7 @@ fn send_reply<O: Write>(
     send(writer, status, b"", type_of(status), body)
 }
 
-// Receives the body that a head announces, and replies to it. `part` is what came of it with the head.
+// Receives the body that a head announces, and replies to it. `part` is the part that came with the head.
 fn answer_posted<R: Wait, A: Allocator, I: Read, O: Write, W: Witness<A>, S: Saver>(
     rt: &R,
     alloc: A,

@@ -21,7 +21,7 @@ pub(crate) enum Received<A: Allocator> {
     Whole(Vec<u8, A>),
 }
 
-/// Receives the body that a head announces. `part` is what came of it with the head.
+/// Receives the body that a head announces. `part` is the part that came with the head.
 pub(crate) fn receive<A: Allocator, I: Read>(
     alloc: A,
     reader: &mut Counted<I>,
