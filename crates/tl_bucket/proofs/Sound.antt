@@ -22,8 +22,8 @@ use Rattle.tl_bucket.proofs.Grown.{Grows, grows_not, grows_on, needed_stays, who
 abbrev pub WasSent : World → Prefix → Type 0
 WasSent w q = (wanted : Option Bytes) × Contains w.sent (put_checkpoint wanted q)
 
--- each commit had the ones before it, each tile and bundle is one that a committed log needs, all that was sent may be
--- sent, all that was shown is there whole, and the checkpoint is that of the last
+-- each commit had the ones before it, each tile and bundle is one that a committed log needs, all that was sent may
+-- be sent, all that was shown is there whole, and the checkpoint is that of the last publication
 pub record IsSound (setting : Setting) (w : World) : Type 0 where
   pub commits : (n : ℕ) (batch : List Bytes) → w.store.commits n ≡ Some batch → MaySend setting w (put_commit n batch)
   pub held : (r : Resource) (bytes : Bytes) → r ≢ resource.Checkpoint → w.store.held r ≡ Some bytes → IsNeeded setting w.store r bytes

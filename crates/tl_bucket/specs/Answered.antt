@@ -45,11 +45,12 @@ pub record WasMissing (p : Place) (path : Bytes) : Type 0 where
 abbrev pub WasThere : Place → Content → Condition → Type 0
 WasThere p content condition = WasPut p content condition put.Done ⊎ WasRead p content.path content.body
 
--- a put was answered as done, or the object was read, and the answer gave it this entity tag (RFC 9110, section 8.8.3)
+-- a put was answered as done, and the answer gave the object this entity tag (RFC 9110, section 8.8.3)
 pub record WasPutWith (p : Place) (content : Content) (condition : Condition) (etag : Option Bytes) : Type 0 where
   pub body : Bytes
   pub put : AnswersPut p content condition (Ok (record { answer = put.Done; etag = etag; body = body }))
 
+-- the object with this path was read, with this content and this entity tag
 pub record WasReadWith (p : Place) (path body : Bytes) (etag : Option Bytes) : Type 0 where
   pub limit : ℕ
   pub got : AnswersGet p path limit (Ok (record { answer = get.Found; etag = etag; body = body }))

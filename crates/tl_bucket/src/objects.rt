@@ -145,8 +145,8 @@ impl<'b, H: Net<Stream = TcpStream> + Clock> Objects<'b, H> {
         Ok(())
     }
 
-    /// Puts all that waits: the commit of the entries that the bundles add; then tiles and bundles, side by side; then
-    /// the checkpoint.
+    /// Puts all that waits: the commit of the entries that the bundles add, then tiles and bundles, side by side, and
+    /// then the checkpoint.
     pub(crate) fn settle<D: PutsTogether>(&mut self, disk: &D) -> Result<(), BucketFault>
         ensures { OnOk result (SettlesObjects self.old self.new) }
     {

@@ -20,8 +20,8 @@ pub enum GetFault {
     /// A read failed.
     #[error("read failed")]
     Read,
-    /// The input doesn't begin with the head of a response, after interim ones or none, of at most 8,192 bytes together
-    /// and 64 fields each.
+    /// The input doesn't begin with the head of a response, after interim heads or none: at most 8,192 bytes
+    /// together, and 64 fields each.
     #[error("the answer is no response over HTTP/1.0 or HTTP/1.1")]
     NoHead,
     /// The response is of a later version than HTTP/1.1.

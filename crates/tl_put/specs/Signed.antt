@@ -1,5 +1,5 @@
--- Requests as they are signed and sent (AWS, "Signature Calculations for the Authorization Header: Transferring Payload
--- in a Single Chunk (AWS Signature Version 4)"; RFC 9110, section 11.6.2).
+-- Requests as they are signed and sent (AWS, "Signature Calculations for the Authorization Header: Transferring
+-- Payload in a Single Chunk (AWS Signature Version 4)"; RFC 9110, section 11.6.2).
 use Rattle.std.specs.Prelude.{[], ◌∷◌, ◌++◌, codes}
 use Rattle.tl_get.specs.Message.{Sent}
 use Rattle.tl_hash.specs.Bytes.{Bytes}
