@@ -26,7 +26,7 @@ use Rattle.tl_append.proofs.Turns.{along, history_on, joined_on, joined_one, kep
 use Rattle.tl_append.proofs.Publishing.{all_seen_on}
 use Rattle.tl_append.proofs.Reading.{are_first, none_told}
 
--- each batch has so many entries
+-- each batch has as many entries as asked
 abbrev pub AreFull : ℕ → List (List Bytes) → Type 0
 AreFull size [] = ⊤
 AreFull size (batch ∷ more) = (length batch ≡ size) × AreFull size more
@@ -55,7 +55,7 @@ due_is key log from (Some due) last owed =
     subst (λ (ls : List (List Bytes)). published (log ++ joined ls) (checkpoint_note key (log ++ joined ls)) ∷ [] ≡ published_after key log ls) (sym owed.1)
     (ap (λ (es : List Bytes). published (log ++ es) (checkpoint_note key (log ++ es)) ∷ []) (joined_one owed.0))
 
--- batches that were appended so far, which are the lines that were told
+-- batches that were appended so far: their entries are the lines that were read
 pub record IsTold (Sized : List (List Bytes) → Type 0) (key : LogKey) (keeps is_first : Bool) (due : Option Due) (mark : Option ℕ) (c : Course) (i o : Passage) (now : Uncut) : Type 0 where
   pub so_far : IsSoFar Sized key keeps is_first due mark c o
   pub lines : TellsOf unread now i (all_entries (joined (so_far.batches ++ so_far.last)))
@@ -76,7 +76,7 @@ begun key size keeps due mark a saw was y g none = record {
   ended = λ not none. absurd cc;
 }
 
--- and nothing was read
+-- no batch was appended, and nothing was read
 pub begun_told : (key : LogKey) (size : ℕ) (keeps : Bool) (due : Option Due) (mark : Option ℕ) (a : Kept) (saw : List Kept) (was : Ledger) (x y : Option (List ℕ)) (f g : Bool) (now : Uncut) → due ≡ None → now ≡ unread
     → IsTold (AreFull size) key keeps true due mark (along a a saw saw was was) (over x x f f) (over y y g g) now
 unfolding begun
@@ -95,7 +95,7 @@ none_begun key due a saw was x f none = record {
   lines = inr (unread, [], none_told x f);
 }
 
--- the last batch is published, where its publication was due and it is now, and where it was so before
+-- the last batch is published: its publication was due and is made now, or it was made before
 ends : (Sized : List (List Bytes) → Type 0) (key : LogKey) (keeps : Bool) (mark mark' : Option ℕ) (a m b : Kept) (saw mid sees : List Kept) (was now : Ledger) (o : Passage) (due : Option Due)
     (so_far : IsSoFar Sized key keeps false due mark (along a m saw mid was now) o) → ShowsDue key keeps due mark' (along m b mid sees now now) → (due ≡ None → (b ≡ m) × (mark' ≡ mark))
     → HasEnded key keeps (so_far.batches ++ so_far.last) mark' (along a b saw sees was now)
@@ -150,7 +150,7 @@ module _ (Sized : List (List Bytes) → Type 0) (key : LogKey) (keeps is_first :
     pub stopped : (due' : Option Due) → due' ≡ None → (i : Passage) → HasFailed i ⊎ AreFirst i (joined Batches ++ put) → LeavesSome key due' (along a b saw sees was is) i
     stopped due' none i lines = record { batches = Batches; rest = put; signed = subst (IsSigned key is) (sym none) tt; appends = then_put; lines = lines }
 
-    -- it was there, and its head was printed
+    -- the publication that was due was there, and its size and root were printed
     module _ (mark' : Option ℕ) (shows : ShowsDue key keeps due mark' (along m b mid sees now is)) (printed : PrintsDue key due (along m b mid sees now is) (over s t k l)) where
       pub shown_on : WereThere key Batches (along a b saw sees was is)
       shown_on h log was_kept =
@@ -196,7 +196,7 @@ module _ (Sized : List (List Bytes) → Type 0) (key : LogKey) (keeps is_first :
         ended = λ not none. absurd (cc (some, none));
       }
 
-      -- whose lines were told
+      -- whose entries are the lines that were read
       pub told_due : (Sized' : List (List Bytes) → Type 0) (batch : List Bytes) (due' : Option Due) (d : Due) → put ≡ batch → due' ≡ Some d → d.from ≡ now.edge.size
           → is.edge.size ≡ now.edge.size + length batch → IsSigned key is due' → Sized' (Batches ++ batch ∷ [])
           → (v : Uncut) (i : Passage) → TellsOf unread v i (all_entries (joined Batches ++ batch)) → IsTold Sized' key keeps false due' mark' (along a b saw sees was is) i (over r t j l) v
@@ -301,7 +301,7 @@ module _ (Sized : List (List Bytes) → Type 0) (key : LogKey) (keeps : Bool) (m
     heads = all_printed;
   }
 
--- all were put, which are some
+-- all lines were put, so some were
 pub all_left : (key : LogKey) (size : ℕ) (keeps : Bool) (due : Option Due) (mark : Option ℕ) (a m : Kept) (saw mid : List Kept) (was now : Ledger) (i o : Passage)
     → LeavesLast key size keeps due mark (along a m saw mid was now) i o → LeavesSome key due (along a m saw mid was now) i
 all_left key size keeps due mark a m saw mid was now i o left =
@@ -314,7 +314,7 @@ all_left key size keeps due mark a m saw mid was now i o left =
           (subst (λ (es : List Bytes). TellsOf unread left.now i (all_entries es)) (joined_on so_far.batches so_far.last) left.lines.lines));
     }
 
--- some were put, and what was due was published, or may be
+-- some lines were put, and what was due was published, or may be
 pub some_left : (key : LogKey) (a m b : Kept) (saw mid sees : List Kept) (was now : Ledger) (i : Passage) (due : Option Due)
     → LeavesSome key due (along a m saw mid was now) i → PublishesDue key due [] (along m b mid sees now now) → AppendsSome key (along a b saw sees was now) i
 some_left key a m b saw mid sees was now i None left step = record {

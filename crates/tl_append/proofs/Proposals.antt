@@ -30,23 +30,23 @@ pub has_quorum : (note : Bytes) (keys witnesses : List Key) (need : ℕ) (c : ch
     → HasQuorum (record { witnesses = witnesses; need = need }) note
 has_quorum note keys witnesses need c trusted = inr (keys, c, trusted)
 
--- none is kept
+-- no proposal is kept
 pub none_kept : (MayHave : Option Bytes → Type 0) (keys : List Key) (size : ℕ) → MayHave None → HasProposal MayHave keys size
 none_kept MayHave keys size had = (None, had, _)
 
--- an older one is
+-- an older proposal is kept
 pub older_kept : (MayHave : Option Bytes → Type 0) (keys : List Key) (note : Bytes) (size found : ℕ) → MayHave (Some note)
     → ((head : Head) × IsOfNote note keys head × (head.size ≡ size)) → size ≤ found → HasProposal MayHave keys found
 older_kept MayHave keys note size found had (head, of, same) less = (Some note, had, (head, of, omega (arith, same, less)))
 
--- the log is that of the one that is
+-- the log is that of the proposal that is kept
 pub own_kept : (MayHave : Option Bytes → Type 0) (keys : List Key) (note : Bytes) (found : Option Head) → MayHave (Some note)
     → IsStated note keys found → HasProposal MayHave keys (found_size found)
 own_kept MayHave keys note found had (head, is, of) =
     let less : head.size ≤ found_size found = subst (λ (f : Option Head). head.size ≤ found_size f) (sym is) (omega arith) in
     (Some note, had, (head, of, less))
 
--- by the key of a log of this name
+-- a log has all of its proposal, by the key of a log of this name
 pub has_own : {Rests : Type 0} (given : GivenKey) (name named : Bytes) (signer : LogKey) (opener : Key) (MayHave : Option Bytes → Type 0) (size : ℕ)
     → name ≡ named → AreLogKeys given name signer opener → Rests ⊎ HasProposal MayHave (opener ∷ []) size → Rests ⊎ HasOwnProposal given named MayHave size
 has_own given name named signer opener MayHave size same are (inl rests) = inl rests
@@ -55,7 +55,7 @@ has_own given name named signer opener MayHave size same are (inr has) =
 
 -- ---- the checkpoint that is there
 
--- the log is that of it
+-- the log is that of the checkpoint that is there
 pub has_shown : (held : Held) (keys : List Key) (found : Option Head) → IsOfHeld held keys found → IsNoOlder (held resource.Checkpoint) keys (found_size found)
 has_shown held keys None none = subst (λ (n : Option Bytes). IsNoOlder n keys 0) (sym none) _
 has_shown held keys (Some head) (note, is, of) =
@@ -66,7 +66,7 @@ pub is_there : (held : Held) (keys : List Key) (found : Option Head) → IsOfHel
 is_there held keys None none some = absurd (some refl)
 is_there held keys (Some head) (note, is, of) some = (note, is, (head, refl, of))
 
--- a log of more entries has all of it, too
+-- a log of more entries has all entries of the checkpoint too
 pub grown_shown : (note : Option Bytes) (keys : List Key) (size more : ℕ) → size ≤ more → IsNoOlder note keys size → IsNoOlder note keys more
 grown_shown None keys size more less older = _
 grown_shown (Some note) keys size more less (head, of, older) =
@@ -79,7 +79,7 @@ one_size note keys a b (c, signed, named, sized, rooted) (d, signed_too, named_t
     let text = (one_note note (checkpoint_text c) (checkpoint_text d) signed.lines signed_too.lines signed.noted signed_too.noted).0 in
     sym sized ∙ ap (λ (h : checkpoint.Head). h.size) (one_checkpoint c d signed.stated signed_too.stated text) ∙ sized_too
 
--- that of a proposal which has more entries
+-- the log of a proposal with more entries has all entries of the checkpoint
 pub proposal_shown : (shown : Option Bytes) (keys : List Key) (note text : Bytes) (size had : ℕ) (found : Option Head)
     → ((head : Head) × IsOfNote note keys head × (head.size ≡ size)) → text ≡ note → IsStated text keys found
     → had ≤ size → IsNoOlder shown keys had → IsNoOlder shown keys (found_size found)
@@ -94,13 +94,13 @@ newer_note : {X : Type 0} (MayHave : Option Bytes → Type 0) (keys : List Key) 
     → IsNewer MayHave keys size (option_map bytes kept) → kept ≡ Some note → IsNewer MayHave keys size (Some (bytes note))
 newer_note MayHave keys size bytes kept note newer is = subst (λ (k : Option _). IsNewer MayHave keys size (option_map bytes k)) is newer
 
--- the log is that of one
+-- the log is that of a newer proposal
 pub own_newer : {X : Type 0} (MayHave : Option Bytes → Type 0) (keys : List Key) (size : ℕ) (bytes : X → Bytes) (kept : Option X) (note : X) (text : Bytes) (found : Option Head)
     → IsNewer MayHave keys size (option_map bytes kept) → kept ≡ Some note → text ≡ bytes note → IsStated text keys found → IsProposed MayHave keys found
 own_newer MayHave keys size bytes kept note text found newer is same stated =
     (bytes note, (newer_note MayHave keys size bytes kept note newer is).0, subst (λ (n : Bytes). IsStated n keys found) same stated)
 
--- it has no fewer entries than the checkpoint
+-- the log of a newer proposal has no fewer entries than the checkpoint
 pub newer_shown : {X : Type 0} (shown : Option Bytes) (MayHave : Option Bytes → Type 0) (keys : List Key) (size : ℕ) (bytes : X → Bytes) (kept : Option X) (note : X) (text : Bytes)
     (had : ℕ) (found : Option Head) → IsNewer MayHave keys size (option_map bytes kept) → kept ≡ Some note → text ≡ bytes note → IsStated text keys found
     → had ≤ size → IsNoOlder shown keys had → IsNoOlder shown keys (found_size found)

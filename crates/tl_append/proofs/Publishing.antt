@@ -34,7 +34,7 @@ module _ (key : LogKey) (a b : Kept) (saw sees : List Kept) (was is : Ledger) wh
     safe = λ h log keeps. safe_as h (h ++ []) saw sees (sym (append-nil h)) (safe h log keeps);
   }
 
-  -- or not
+  -- no entries were put
   pub none_put : ((h : List Prefix) (log : List Bytes) → IsKeeping sha256 h log a was → IsKeeping sha256 h log b is)
       → ((h : List Prefix) (log : List Bytes) → IsKeeping sha256 h log a was → KeptSafe sha256 h saw sees) → PublishesDue key None [] (along a b saw sees was is)
   none_put kept safe = none_due [] (λ h log keeps. kept_as h h log (log ++ []) b is refl (sym (append-nil log)) (kept h log keeps)) safe
@@ -44,11 +44,11 @@ pub nothing_due : (key : LogKey) (a : Kept) (saw : List Kept) (was : Ledger) →
 nothing_due key a saw was =
     none_put key a a saw saw was was (λ h log keeps. keeps) (λ h log keeps. record { steps = []; trace = sym (append-nil saw); each = All-nil (IsSafe sha256 h) })
 
--- and nothing printed
+-- nothing was printed
 pub none_printed : (key : LogKey) (c : Course) (y : Option (List ℕ)) (failed : Bool) → PrintsDue key None c (record { old = y; new = y; had_failed = failed; has_failed = failed })
 none_printed key c y failed = λ h log keeps. record { appended = Appends-nil y; steady = refl }
 
--- nor shown
+-- nothing was shown
 pub none_shown : (key : LogKey) (keeps : Bool) (mark : Option ℕ) (c : Course) → ShowsDue key keeps None mark c
 none_shown key keeps mark c = record {
   seen = λ h log was_kept. All-nil (WasThere c.sees);
@@ -57,7 +57,7 @@ none_shown key keeps mark c = record {
   gone = λ not. tt;
 }
 
--- ---- what was there was so later, too
+-- ---- what was there at some moment counts at any later one
 
 pub seen_on : (h : List Prefix) (p : Prefix) (mid sees : List Kept) → KeptSafe sha256 h mid sees → WasThere mid p → WasThere sees p
 seen_on h p mid sees later was = (was.0, subst (λ (ks : List Kept). Contains ks was.0) (sym later.trace) (Contains-append_left mid later.steps was.0 was.1), was.2)
@@ -67,12 +67,12 @@ all_seen_on h ps mid sees later all k d less = seen_on h _ mid sees later (all k
 
 -- ---- what is due is published
 
--- where no entries are put
+-- if no entries are put
 pub none_behind : (a m : Kept) (was now : Ledger) (note : Bytes) → ((h : List Prefix) (log : List Bytes) → IsKeeping sha256 h log a was → IsKeeping sha256 (h ++ published log note ∷ []) log m now)
     → (h : List Prefix) (log : List Bytes) → IsKeeping sha256 h log a was → IsKeeping sha256 (h ++ published log note ∷ []) (log ++ []) m now
 none_behind a m was now note kept h log was_kept = kept_as _ _ log (log ++ []) m now refl (sym (append-nil log)) (kept h log was_kept)
 
--- its note is put, or may be, and these entries are
+-- the note is put, or may be, and these entries are put
 module _ (key : LogKey) (due : Option Due) (last : Due) (is : due ≡ Some last) (note : Bytes) (same : note ≡ string_bytes last.note) (a m : Kept) (saw mid : List Kept) (was now : Ledger) (put : List Bytes)
     (signed : IsSigned key was due)
     (kept : (h : List Prefix) (log : List Bytes) → IsKeeping sha256 h log a was → IsKeeping sha256 (h ++ published log note ∷ []) (log ++ put) m now)
@@ -126,7 +126,7 @@ module _ (key : LogKey) (due : Option Due) (last : Due) (is : due ≡ Some last)
       gone = λ not. subst (λ (n : ℕ). LacksSpent last.from n b.held) sized (lacks not);
     })
 
--- and its head printed
+-- its size and root are printed
 pub due_printed : (key : LogKey) (last : Due) (a b : Kept) (saw sees : List Kept) (was is : Ledger) (size : ℕ) (root : Bytes) (o : Passage) → size ≡ was.edge.size
     → ((entries : List Bytes) → IsStanding sha256 entries was → root ≡ tree_hash sha256 entries) → WroteWhole o (head_line size root) → PrintsDue key (Some last) (along a b saw sees was is) o
 due_printed key last a b saw sees was is size root o sized rooted wrote = λ h log keeps.

@@ -1,4 +1,4 @@
--- The lines of batches.
+-- The lines that make up batches.
 use Rattle.std.proofs.Common.{inl, inr, ◌≡◌, ◌⊎◌, ℕ, ◌<◌, ◌≤◌, Bool, true, false, cond, List, [], ◌∷◌, ◌++◌, Option, length, refl, sym, ap, subst, ◌∙◌, lt-ltb}
 use Rattle.std.specs.Prelude.{All, Err}
 use Rattle.std.proofs.KnownBytes.{Consumes-nil}
@@ -16,7 +16,7 @@ use Rattle.tl_lines.proofs.PieceLemmas.{told_short}
 use Rattle.tl_lines.proofs.ReadingLemmas.{of_then, over}
 use Rattle.tl_append.specs.Appending.{AreFirst}
 
--- ---- entries that were told are short
+-- ---- entries that were read are short
 
 abbrev AreShort : List Bytes → Type 0
 AreShort entries = All (λ (entry : Bytes). length entry ≤ 65535) entries
@@ -76,7 +76,7 @@ module _ (v w : Uncut) (a b c : Option (List ℕ)) (f g h : Bool) (xs : List Byt
   first_failed A count faults.OutOfMemory next =
       inr (first_on (all_entries next.0) (record { heard = next.3.heard; hears = next.3.hears; tells = next.3.tells; steady = next.3.steady }))
 
--- the lines of these entries are the first, also where no more is said
+-- these entries are the first lines, even if fewer are named
 pub are_first : (w : Uncut) (p : Passage) (xs ys : List Bytes) (own : List Bytes) → (own ≡ []) ⊎ (own ≡ ys) → TellsOf unread w p (all_entries (xs ++ ys)) → AreFirst p (xs ++ own)
 are_first w p xs ys own (inl none) told =
     (w, all_entries ys, subst (λ (ts : List Told). TellsOf unread w p ts) (map-append Entry xs ys ∙ ap (λ (es : List Bytes). all_entries es ++ all_entries ys) (sym (ap (λ (es : List Bytes). xs ++ es) none ∙ append-nil xs))) told)

@@ -24,7 +24,7 @@ use Rattle.tl_append.proofs.Turns.{along}
 abbrev pub between : Kept → Kept → List Kept → List Kept → Visit
 between a b saw sees = record { before = a; after = b; saw = saw; sees = sees }
 
--- what a ledger keeps rests, and what rests a ledger that stands at it keeps
+-- what a ledger keeps is at rest, and a ledger that stands at what is at rest keeps it
 pub resting : (h : List Prefix) (l : List Bytes) (k : Kept) (x : Ledger) → IsKeeping sha256 h l k x → IsResting sha256 h l k
 resting h l k x keeps = record { begins = keeps.begins; rests = keeps.rests; safe = keeps.safe; whole = keeps.whole }
 
@@ -86,7 +86,7 @@ module _ (key : LogKey) (keys : List Key) (found : Found) (a b : Kept) (saw sees
 
 -- ---- the key
 
--- the name of a key that options tell
+-- the name of the key that options name
 pub key_named : (given : GivenKey) (name : Bytes) (key : LogKey) → IsLogKey given name key → key.name ≡ name
 key_named (given.Secret secret) name key is = ap (λ (k : LogKey). k.name) is
 key_named (given.File path) name key (bytes, k, file, named, is) = ap (λ (x : LogKey). x.name) is ∙ named

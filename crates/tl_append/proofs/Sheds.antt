@@ -1,4 +1,4 @@
--- Spent partial tiles and bundles that are removed.
+-- Removing spent partial tiles and bundles.
 use Rattle.std.proofs.Common.{inl, ℕ, List, [], refl, sym}
 use Rattle.std.proofs.lemmas.List.{append-nil}
 use Rattle.std.proofs.lemmas.List.Elements.{All-nil}
@@ -7,7 +7,7 @@ use Rattle.tl_archive.specs.Shelves.{Kept}
 use Rattle.tl_archive.specs.Complete.{IsSafe}
 use Rattle.tl_append.specs.Inner.Shedding.{ShedsSpent}
 
--- none was
+-- nothing was removed
 pub none_shed : (size : ℕ) (a : Kept) (saw : List Kept) → ShedsSpent size a a saw saw
 none_shed size a saw = record {
   kept = λ h log ledger keeps shown. keeps;

@@ -51,11 +51,11 @@ none_shown key q a saw was = record {
 abbrev pub wider : List Bytes → Turn → Turn
 wider rest y = record { batch = rest ++ y.batch; lines = y.lines }
 
--- the publications of turns behind entries that were put are those of turns of which the first has these, too
+-- turns behind entries that were put have the publications of turns whose first has these entries too
 first_wider : (key : LogKey) (log rest : List Bytes) (y : Turn) (ys : List Turn) → shown_after key (log ++ rest) (y ∷ ys) ≡ shown_after key log (wider rest y ∷ ys)
 first_wider key log rest y ys = ap (λ (l : List Bytes). shown key l y.lines ∷ shown_after key l ys) (append_assoc log rest y.batch)
 
--- so are all entries
+-- and the same entries in all
 five : (j r y z m : List Bytes) → (j ++ ((r ++ y) ++ z)) ++ m ≡ (j ++ r) ++ ((y ++ z) ++ m)
 five j r y z m =
     append_assoc j ((r ++ y) ++ z) m ∙ ap (λ (t : List Bytes). j ++ t) (append_assoc (r ++ y) z m ∙ append_assoc r y (z ++ m))

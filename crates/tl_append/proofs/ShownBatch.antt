@@ -19,7 +19,7 @@ use Rattle.tl_append.specs.Inner.Turns.{IsNoteOf, SealsBatch, turn}
 use Rattle.tl_append.proofs.Showing.{AreCosigned}
 use Rattle.tl_append.proofs.Turns.{along, checkpoint_stays, kept_as, safe_as, safe_both, safe_on, shown_as}
 
--- a note of a size and a root with some lines behind it, where these are those of the log
+-- a note with some lines behind it is that of the log, if its size and root are the log's
 pub is_note_of : (key : LogKey) (now : Ledger) (size : ℕ) (root note lines text : Bytes) → size ≡ now.edge.size
     → ((entries : List Bytes) → IsStanding sha256 entries now → root ≡ tree_hash sha256 entries)
     → ((entries : List Bytes) → length entries ≡ size → tree_hash sha256 entries ≡ root → note ≡ checkpoint_note key entries)
@@ -29,7 +29,7 @@ is_note_of key now size root note lines text sized rooted signed lined = record 
   noted = λ log stands. lined ∙ ap (λ (n : Bytes). n ++ lines) (signed log (stands.at_edge.0 ∙ sym sized) (sym (rooted log stands)));
 }
 
--- what was shown is no more than at most
+-- a batch that was shown satisfies `ShowsAtMost`
 pub shown_at_most : (key : LogKey) (q : Quorum) (batch : List Bytes) (lines : Bytes) (a b : Kept) (saw sees : List Kept) (was is : Ledger)
     → is.edge.size ≡ was.edge.size + length batch → ShowsThen key q (turn batch lines ∷ []) [] (along a b saw sees was is) → ShowsAtMost key q batch (along a b saw sees was is)
 shown_at_most key q batch lines a b saw sees was is grown all = record {

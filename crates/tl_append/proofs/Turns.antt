@@ -26,7 +26,7 @@ use Rattle.tl_append.specs.Inner.Turns.{HasShown}
 abbrev pub along : Kept → Kept → List Kept → List Kept → Ledger → Ledger → Course
 along a b saw sees was is = record { before = a; after = b; saw = saw; sees = sees; was = was; is = is }
 
--- what is kept, where the lists are the same
+-- what is kept, for equal lists
 pub kept_as : (h h' : List Prefix) (l l' : List Bytes) (k : Kept) (x : Ledger) → h ≡ h' → l ≡ l' → IsKeeping sha256 h l k x → IsKeeping sha256 h' l' k x
 kept_as h h' l l' k x eh el is = subst (λ (t : List Prefix). IsKeeping sha256 t l' k x) eh (subst (λ (t : List Bytes). IsKeeping sha256 h t k x) el is)
 
@@ -126,7 +126,7 @@ nothing_then key xs a b saw sees was is all = record {
 
 -- ---- one batch
 
--- it was published, which is no more than at most
+-- a batch that was published satisfies `AppendsAtMost`
 pub at_most : (key : LogKey) (batch : List Bytes) (a b : Kept) (saw sees : List Kept) (was is : Ledger) → is.edge.size ≡ was.edge.size + length batch
     → Appends key (batch ∷ []) (along a b saw sees was is) → AppendsAtMost key batch (along a b saw sees was is)
 at_most key batch a b saw sees was is grown all = record {

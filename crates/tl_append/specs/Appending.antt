@@ -1,4 +1,4 @@
--- Entries that are appended to a log in batches, each of them published.
+-- Appending entries to a log in batches, each of them published.
 use Rattle.std.specs.Prelude.{◌≡◌, Bool, ℕ, ◌+◌, ◌<◌, ◌≤◌, ◌⊎◌, ⊤, false, Some, List, [], ◌∷◌, ◌++◌, Contains, length}
 use Rattle.std.specs.List.{All, flat_map}
 use Rattle.sha2.specs.Sha256.{sha256}
@@ -28,7 +28,8 @@ published_after key log [] = []
 published_after key log (batch ∷ more) =
     published (log ++ batch) (checkpoint_note key (log ++ batch)) ∷ published_after key (log ++ batch) more
 
--- a shelf and the ledger of its log before and after: what the shelf kept, and what it kept after each call so far
+-- a shelf and the ledger of its log, before and after: what the shelf kept then, and what it kept after each call so
+-- far
 pub record Course : Type 0 where
   pub before : Kept
   pub after : Kept
@@ -37,11 +38,11 @@ pub record Course : Type 0 where
   pub was : Ledger
   pub is : Ledger
 
--- what became of a shelf and a ledger
+-- the course of a shelf and a ledger
 abbrev pub course : {S : Type 0} → (S → Kept) → (S → List Kept) → S → S → Ledger → Ledger → Course
 course kept trace a b was is = record { before = kept a; after = kept b; saw = trace a; sees = trace b; was = was; is = is }
 
--- batches were appended: whatever the ledger kept before, it keeps the same and the batches after it now, each
+-- batches were appended: whatever the ledger kept before, it now keeps the same with the batches behind it, each
 -- published, and whatever a crash leaves at any moment in between is complete for one of the publications
 pub record Appends (key : LogKey) (batches : List (List Bytes)) (c : Course) : Type 0 where
   pub kept : (history : List Prefix) (log : List Bytes) → IsKeeping sha256 history log c.before c.was
@@ -49,27 +50,27 @@ pub record Appends (key : LogKey) (batches : List (List Bytes)) (c : Course) : T
   pub safe : (history : List Prefix) (log : List Bytes) → IsKeeping sha256 history log c.before c.was
       → KeptSafe sha256 (history ++ published_after key log batches) c.saw c.sees
 
--- the same, and then these entries, which are put behind the log and not published
+-- batches were appended and published, and then these entries put behind the log and not published
 pub record AppendsThen (key : LogKey) (batches : List (List Bytes)) (rest : List Bytes) (c : Course) : Type 0 where
   pub kept : (history : List Prefix) (log : List Bytes) → IsKeeping sha256 history log c.before c.was
       → IsKeeping sha256 (history ++ published_after key log batches) ((log ++ joined batches) ++ rest) c.after c.is
   pub safe : (history : List Prefix) (log : List Bytes) → IsKeeping sha256 history log c.before c.was
       → KeptSafe sha256 (history ++ published_after key log batches) c.saw c.sees
 
--- what was appended of a batch, by the ledger's size: all of it, or nothing
+-- what was put of a batch, by the ledger's size: all of it, or nothing
 abbrev pub IsPutOrNot : List Bytes → List Bytes → Course → Type 0
 IsPutOrNot batch put c =
     ((put ≡ []) × (c.is.edge.size ≡ c.was.edge.size))
     ⊎ ((put ≡ batch) × (c.is.edge.size ≡ c.was.edge.size + length batch))
 
--- a batch was appended at most: it was published, or put behind the log and not published, or neither
+-- a batch was published, or put behind the log and not published, or neither
 pub record AppendsAtMost (key : LogKey) (batch : List Bytes) (c : Course) : Type 0 where
   pub batches : List (List Bytes)
   pub rest : List Bytes
   pub appends : AppendsThen key batches rest c
   pub own : IsPutOrNot batch (joined batches ++ rest) c
 
--- the checkpoint that is there then is that of the log with the batch, under its note by the log's key
+-- the checkpoint that is there at the end is that of the log with the batch, under its note by the log's key
 abbrev pub HasCheckpoint : LogKey → List Bytes → Course → Type 0
 HasCheckpoint key batch c = (history : List Prefix) (log : List Bytes) → IsKeeping sha256 history log c.before c.was
     → c.after.held resource.Checkpoint ≡ Some (checkpoint_note key (log ++ batch))
@@ -78,7 +79,7 @@ HasCheckpoint key batch c = (history : List Prefix) (log : List Bytes) → IsKee
 abbrev pub WasThere : List Kept → Prefix → Type 0
 WasThere sees p = (kept : Kept) × Contains sees kept × IsFor sha256 p kept.held
 
--- so it was with the publication of each of these batches
+-- the publication of each of these batches was there after some call so far, with all that it needs
 abbrev pub WereThere : LogKey → List (List Bytes) → Course → Type 0
 WereThere key batches c = (history : List Prefix) (log : List Bytes) → IsKeeping sha256 history log c.before c.was
     → All (WasThere c.sees) (published_after key log batches)
@@ -96,19 +97,19 @@ head_line size root = line (number_text size ++ 32 ∷ base64_text root)
 abbrev pub publication_line : Prefix → Bytes
 publication_line p = head_line (length p.entries) (tree_hash sha256 p.entries)
 
--- the writer took the lines of the publications, in order, whatever the ledger kept before
+-- the writer took the lines of the publications in order, whatever the ledger kept before
 pub record PrintsHeads (key : LogKey) (batches : List (List Bytes)) (c : Course) (o : Passage) : Type 0 where
   pub lines : (history : List Prefix) (log : List Bytes) → IsKeeping sha256 history log c.before c.was
       → WroteWhole o (flat_map publication_line (published_after key log batches))
 
--- batches of so many entries, of which the last one may have fewer
+-- batches of `size` entries, the last of which may have fewer
 abbrev pub AreBatches : ℕ → List (List Bytes) → Type 0
 AreBatches size [] = ⊤
 AreBatches size (last ∷ []) = length last ≤ size
 AreBatches size (batch ∷ next ∷ more) = (length batch ≡ size) × AreBatches size (next ∷ more)
 
--- all lines that were to come of an input were appended in batches, one at least; each publication was there, the last
--- one is, the heads of them were printed, and unless they are kept, no partial tiles are left that the last batch spent
+-- all lines of an input were appended in batches, at least one; each publication was there, the last one still is,
+-- and their sizes and roots were printed. Unless they are kept, no partial tiles are left that the last batch spent
 pub record AppendsLines (key : LogKey) (size : ℕ) (keeps : Bool) (c : Course) (i o : Passage) : Type 0 where
   pub batches : List (List Bytes)
   pub sized : AreBatches size batches
@@ -125,8 +126,8 @@ pub record AppendsLines (key : LogKey) (size : ℕ) (keeps : Bool) (c : Course) 
 abbrev pub AreFirst : Passage → List Bytes → Type 0
 AreFirst i entries = (last : Uncut) × (more : List Told) × TellsOf unread last i (all_entries entries ++ more)
 
--- some lines were appended before a fault: the first of the input, unless a read of it failed; and where a checkpoint
--- was not signed, the entries that were put for it are not published
+-- some lines were appended before a fault: the first of the input, unless a read of it failed. If a checkpoint wasn't
+-- signed, the entries that were put for it aren't published
 pub record AppendsSome (key : LogKey) (c : Course) (i : Passage) : Type 0 where
   pub batches : List (List Bytes)
   pub rest : List Bytes

@@ -1,4 +1,4 @@
--- Private words: what contracts of private functions and proofs need.
+-- Definitions for the contracts of private functions and for proofs.
 pub
     mod Due
 pub

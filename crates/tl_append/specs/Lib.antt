@@ -1,4 +1,4 @@
--- The definitions of logs that grow on a shelf.
+-- Logs that grow on a shelf.
 pub mod Appending
 pub mod Cosigning
 pub mod Faults

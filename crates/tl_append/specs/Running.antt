@@ -1,4 +1,4 @@
--- A run of the command `append`: it goes on from the log on a shelf.
+-- The command `append`, which goes on from the log on a shelf.
 use Rattle.std.specs.Prelude.{◌≡◌, ◌<◌, ◌⊎◌, ⊤, ℕ, ◌-◌, ◌^◌, Bool, true, false, max, length, Option, Some, None, List, [], ◌∷◌, ◌++◌, Contains, Result, Ok, Err, string_bytes}
 use Rattle.std.specs.List.{All, flat_map}
 use Rattle.sha2.specs.Sha256.{sha256}
@@ -23,7 +23,7 @@ use Rattle.tl_run.specs.declared.fault.RunFault.{RunFault}
 use Rattle.tl_append.specs.Appending.{AreBatches, AreFirst, WasThere, joined, publication_line, published_after}
 use Rattle.tl_append.specs.Proposing.{HasProposal}
 
--- a shelf at rest with the log of these entries, after these publications: each is of a beginning of them, nothing is
+-- a shelf at rest with the log of these entries, after these publications: each is of a prefix of them, nothing is
 -- staged, whatever a crash leaves is complete for one of the publications, and all that a log of the entries needs is
 -- there
 pub record IsResting (H : Digest) (history : List Prefix) (entries : List Bytes) (kept : Kept) : Type 0 where
@@ -32,14 +32,14 @@ pub record IsResting (H : Digest) (history : List Prefix) (entries : List Bytes)
   pub safe : IsSafe H history kept
   pub whole : HasAll H entries kept.held
 
--- a shelf before and after: what it kept, and what it kept after each call so far
+-- a shelf before and after: what it kept then, and what it kept after each call so far
 pub record Visit : Type 0 where
   pub before : Kept
   pub after : Kept
   pub saw : List Kept
   pub sees : List Kept
 
--- what became of a shelf
+-- the visit of a shelf
 abbrev pub visit : {S : Type 0} → (S → Kept) → (S → List Kept) → S → S → Visit
 visit kept trace a b = record { before = kept a; after = kept b; saw = trace a; sees = trace b }
 
@@ -49,17 +49,17 @@ pub record Grows (key : LogKey) (batches : List (List Bytes)) (rest : List Bytes
   pub rests : IsResting sha256 (history ++ published_after key log batches) ((log ++ joined batches) ++ rest) v.after
   pub safe : KeptSafe sha256 (history ++ published_after key log batches) v.saw v.sees
 
--- this comes of each log with the size and the root that were found, at rest on the shelf, or inputs collide
+-- this comes of each log at rest on the shelf with the size and the root that were found, or inputs collide
 abbrev pub OfFound : Found → Kept → (List Prefix → List Bytes → Type 0) → Type 0
 OfFound found before Comes =
     (history : List Prefix) (log : List Bytes) → IsLogOf sha256 found.head log → IsResting sha256 history log before
     → FoundCollides sha256 found log ⊎ Comes history log
 
--- the writer took the lines of the publications, in order
+-- the writer took the lines of the publications in order
 abbrev pub WroteHeads : LogKey → List (List Bytes) → Passage → List Prefix → List Bytes → Type 0
 WroteHeads key batches o history log = WroteWhole o (flat_map publication_line (published_after key log batches))
 
--- each publication was there
+-- each publication was there after some call, with all that it needs
 abbrev pub HadAll : LogKey → List (List Bytes) → Visit → List Prefix → List Bytes → Type 0
 HadAll key batches v history log = All (WasThere v.sees) (published_after key log batches)
 
@@ -73,15 +73,15 @@ abbrev pub MarksLast : LogKey → Found → Visit → Option ℕ → Type 0
 MarksLast key found v mark = OfFound found v.before (λ history log. (all : List Bytes)
     × (v.after.held resource.Checkpoint ≡ Some (checkpoint_note key all)) × (mark ≡ Some (length all)))
 
--- the key of a log of this name that its options tell: the demonstration key of the name and a secret, or the private
--- key of the name that a file has
+-- the key of a log of this name that its options name: the demonstration key of the name and a secret, or the private
+-- key of that name in a file
 abbrev pub IsLogKey : GivenKey → Bytes → LogKey → Type 0
 IsLogKey (given.Secret secret) name key = key ≡ demo_log_key (record { name = name; secret = string_bytes secret })
 IsLogKey (given.File path) name key =
     (bytes : Bytes) × (k : SeedKey) × IsPrivateFile note_kind bytes k × (k.name ≡ name) × (key ≡ seed_log_key k)
 
--- both keys of a log of this name that its options tell, the one that it signs with and the one that opens what it
--- signed: they are of one secret, or of one private key
+-- both keys of a log of this name that its options name, the one that signs and the one that opens what that signed:
+-- they are of one secret, or of one private key
 abbrev pub AreLogKeys : GivenKey → Bytes → LogKey → Key → Type 0
 AreLogKeys (given.Secret secret) name signer opener =
     (signer ≡ demo_log_key (record { name = name; secret = string_bytes secret }))
@@ -90,18 +90,18 @@ AreLogKeys (given.File path) name signer opener =
     (bytes : Bytes) × (k : SeedKey) × IsPrivateFile note_kind bytes k × (k.name ≡ name)
     × (signer ≡ seed_log_key k) × (opener ≡ verifier_key (public_of k))
 
--- a log of so many entries has all of a proposal that may be kept, which opens by the key that opens what it signs
+-- a log of this size has all entries of a proposal that may be kept, which opens under the log's own key
 abbrev pub HasOwnProposal : GivenKey → Bytes → (Option Bytes → Type 0) → ℕ → Type 0
 HasOwnProposal given name MayHave size =
     (signer : LogKey) × (opener : Key) × AreLogKeys given name signer opener × HasProposal MayHave (opener ∷ []) size
 
--- the number of entries of a batch: as many as the options tell, one at least
+-- the size of a batch: as many entries as the options say, at least one
 abbrev pub batch_size : Option ℕ → ℕ
 batch_size None = 2 ^ 64 - 1
 batch_size (Some count) = max count 1
 
--- all lines of the input were appended in batches, one at least; each publication was there, the last one is, and the
--- heads of them were printed
+-- all lines of the input were appended in batches, at least one; each publication was there, the last one still is,
+-- and their sizes and roots were printed
 pub record GoesOnWhole (key : LogKey) (size : ℕ) (found : Found) (v : Visit) (i o : Passage) : Type 0 where
   pub batches : List (List Bytes)
   pub sized : AreBatches size batches
@@ -113,30 +113,30 @@ pub record GoesOnWhole (key : LogKey) (size : ℕ) (found : Found) (v : Visit) (
   pub there : OfFound found v.before (HasLast key batches v)
   pub heads : OfFound found v.before (WroteHeads key batches o)
 
--- some were before a fault: the first of them, unless a read failed
+-- some lines were appended before a fault: the first of the input, unless a read of it failed
 pub record GoesOnPart (key : LogKey) (found : Found) (v : Visit) (i : Passage) : Type 0 where
   pub batches : List (List Bytes)
   pub rest : List Bytes
   pub grows : OfFound found v.before (Grows key batches rest v)
   pub lines : HasFailed i ⊎ AreFirst i (joined batches ++ rest)
 
--- nothing was written, and nothing read of the input
+-- nothing was written, and nothing was read of the input
 pub record Stays (v : Visit) (i : Passage) : Type 0 where
   pub kept : v.after ≡ v.before
   pub trace : v.sees ≡ v.saw
   pub unread : IsUnread i
 
--- a log of so many entries may be gone on from, where it is to have just this number, if one is given
+-- a log of this size may go on, if it has to have `start` entries or any number
 abbrev pub IsStart : Option ℕ → ℕ → Type 0
 IsStart None size = ⊤
 IsStart (Some start) size = size ≡ start
 
--- a log begins if it is asked to, so that none was found; else one was found, which is gone on from
+-- a new log begins if that is asked, and none was found; else one was found, and it goes on
 abbrev pub BeginsAsAsked : Bool → Option Head → Type 0
 BeginsAsAsked true found = found ≡ None
 BeginsAsAsked false found = (head : Head) × (found ≡ Some head)
 
--- how a log of this name goes on, under the key that is given, in batches of this size
+-- how a log of this name goes on, under the key that its options name, in batches of this size
 abbrev pub GoesOn : GivenKey → Bytes → ℕ → Found → Visit → Passage → Passage → Result (Unit {0}) RunFault → Type 0
 GoesOn key name size found v i o (Ok done) = (own : LogKey) × IsLogKey key name own × GoesOnWhole own size found v i o
 GoesOn key name size found v i o (Err fault) =

@@ -1,4 +1,4 @@
-//! Lines of an input that are appended to a log in batches.
+//! Appending the lines of an input to a log in batches.
 
 ghost use Rattle.std.specs.Prelude.{◌≡◌, ◌<◌, ◌^◌, ◌⊎◌, None, OnErr, OnOk, Some};
 ghost use Rattle.tl_device.specs.Device.{passage};
@@ -17,7 +17,7 @@ use tl_ledger::Ledger;
 use tl_lines::Lines;
 use tl_run::{LogSigner, RunFault};
 
-// Whether what is due waits for the next batch.
+// Reports whether the publication that is due waits for the next batch.
 fn waits_for_next(batching: Batching, lines: &Lines<Global>) -> bool {
     match batching.joining {
         Joining::Never => false,
@@ -26,8 +26,8 @@ fn waits_for_next(batching: Batching, lines: &Lines<Global>) -> bool {
     }
 }
 
-// Puts the lines of the input behind the log in batches, each of which is published with what the next one adds or,
-// where it doesn't wait for that, alone. What is due then is the publication of the last one, if any.
+// Puts the lines of the input behind the log in batches. Each is published with what the next one adds, or alone if
+// it doesn't wait for that. The publication of the last one is left due, if any.
 fn put_lines<K: LogSigner, S: Shelf, R: Read, W: Write>(
     alloc: Global,
     key: &K,
@@ -93,10 +93,11 @@ fn put_lines<K: LogSigner, S: Shelf, R: Read, W: Write>(
     Err(RunFault::Operator)
 }
 
-/// Appends the lines of the input to the log on the shelf, which is the ledger's, and publishes it after each batch and
-/// at the end, once at least: each time under a note of its checkpoint by the key, whose name is the log's, alone or
-/// with what the next batch adds. Its size is then marked, spent partial tiles are removed, unless they are kept, and
-/// size and root printed. It keeps one batch and the ledger. `Operator`: the log would have more than 2^32 - 1 entries.
+/// Appends the lines of the input to the log of this ledger on the shelf, and publishes it after each batch and at
+/// the end, at least once, under a note of its checkpoint by the key, whose name is the log's. A publication is put
+/// alone or with what the next batch adds. Its size is then marked, spent partial tiles are removed unless kept, and
+/// size and root are printed. Memory holds one batch and the ledger. `Operator`: the log would have more than 2^32 -
+/// 1 entries.
 pub fn append_lines<K: LogSigner, S: Shelf, R: Read, W: Write>(
     alloc: Global,
     key: &K,

@@ -1,4 +1,4 @@
-//! One batch of entries that is appended to a log and published.
+//! Appending one batch of entries to a log, and publishing it.
 
 ghost use Rattle.std.specs.Prelude.{◌≡◌, ◌+◌, ◌<◌, ◌^◌, ◌∷◌, ◌++◌, [], List, false, length, map, vec_items, OnErr, OnOk, Some};
 ghost use Rattle.sha2.specs.Sha256.{sha256};
@@ -22,7 +22,7 @@ use tl_run::{LogSigner, RunFault, sign_checkpoint};
 /// The most entries of a log.
 pub(crate) const MOST_ENTRIES: u64 = 4_294_967_295;
 
-/// Puts a batch behind a log. `Operator`: it has no room for it, and nothing was put.
+/// Puts a batch behind a log. `Operator`: the log has no room for it, and nothing was put.
 pub(crate) fn put_batch<S: Shelf>(
     shelf: &mut S,
     ledger: &mut Ledger<Global>,
@@ -54,7 +54,7 @@ pub(crate) fn put_batch<S: Shelf>(
     }
 }
 
-// Puts a batch behind a log, and publishes it.
+// Puts a batch behind a log, and publishes it under a note by the key.
 fn publish_batch<K: LogSigner, S: Shelf>(
     alloc: Global,
     key: &K,
@@ -93,11 +93,11 @@ fn publish_batch<K: LogSigner, S: Shelf>(
     }
 }
 
-/// Puts a batch of entries behind the log on the shelf, which is the ledger's, and publishes it, once its tiles and
-/// bundles outlast a crash, under a note of its checkpoint by the key, whose name is the log's (C2SP tlog-checkpoint,
-/// tlog-tiles). The new size is then marked, and unless they are kept, partial tiles and bundles that are spent since
-/// are removed. At a fault the ledger's size tells whether the batch was put. `Operator`: the log would have more than
-/// 2^32 - 1 entries.
+/// Puts a batch of entries behind the log of this ledger on the shelf, and publishes it once its tiles and bundles
+/// outlast a crash, under a note of its checkpoint by the key, whose name is the log's (C2SP tlog-checkpoint,
+/// tlog-tiles). The new size is then marked, and partial tiles and bundles that are spent since are removed unless
+/// they are kept. At a fault the ledger's size shows whether the batch was put. `Operator`: the log would have more
+/// than 2^32 - 1 entries.
 pub fn append_batch<K: LogSigner, S: Shelf>(
     alloc: Global,
     key: &K,

@@ -9,28 +9,28 @@ use tl_client::open_cosigned;
 use tl_note::Verifier;
 use tl_run::RunFault;
 
-/// Who asks witnesses. Nothing is known of what they answer: they may lie.
+/// Asks witnesses to cosign. Their answers are untrusted.
 pub trait AsksCosigners {
-    /// Lines by which witnesses cosign this note of a checkpoint (C2SP tlog-witness). It may wait until there are
-    /// enough. It is only ever asked about a note that the store keeps.
+    /// Returns lines by which witnesses cosign this note of a checkpoint (C2SP tlog-witness). It may wait until there
+    /// are enough. It is only ever called with a note that the store keeps.
     fn ask<P: ProposalStore>(&mut self, store: &P, note: &str) -> Result<String, RunFault>
         requires { P.has_kept store.now note.now };
 }
 
-/// Who checks that enough witnesses cosigned a checkpoint.
+/// Checks that enough witnesses cosigned a checkpoint.
 pub trait ChecksCosigned {
     ghost use Rattle.std.specs.Prelude.{OnOk};
     ghost use Rattle.tl_append.specs.Cosigning.{HasQuorum, Quorum};
 
-    /// Which witnesses, and how many of them must have.
+    /// The witnesses, and how many of them are needed.
     ghost quorum: { Self → Quorum };
 
-    /// Passes a note of a checkpoint that opens under the log's keys, and that enough of the witnesses cosigned.
+    /// Accepts a note of a checkpoint that opens under the log's keys and that enough of the witnesses cosigned.
     fn check(&self, alloc: Global, note: &str) -> Result<(), RunFault>
         ensures { OnOk result (HasQuorum (quorum self.now) note.now) };
 }
 
-// Passes a note that opens under the log's keys and that so many of these witnesses cosigned.
+// Accepts a note that opens under the log's keys and that at least `need` of these witnesses cosigned.
 fn check_cosigned(
     alloc: Global,
     note: &str,
@@ -47,7 +47,7 @@ fn check_cosigned(
     }
 }
 
-/// So many of these witnesses, and the keys of the log whose checkpoints they cosign.
+/// How many of which witnesses have to cosign, and the keys of the log whose checkpoints they cosign.
 #[derive(Drop)]
 pub struct LogQuorum<'k> {
     log: &'k [Box<dyn Verifier>],
@@ -58,7 +58,7 @@ pub struct LogQuorum<'k> {
 impl<'k> LogQuorum<'k> {
     ghost use Rattle.std.specs.Prelude.{◌≡◌, map};
 
-    /// At least `need` of these witnesses, and the log's keys.
+    /// Creates a quorum of at least `need` of these witnesses for checkpoints that open under the log's keys.
     pub fn new(
         log: &'k [Box<dyn Verifier>],
         witnesses: &'k [Box<dyn Verifier>],

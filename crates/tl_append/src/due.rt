@@ -1,4 +1,4 @@
-//! Batches of which each is published together with what the next one adds: the disk is waited for once for both.
+//! Publishing each batch together with what the next one adds: the disk is waited for once for both.
 
 ghost use Rattle.std.specs.Prelude.{◌≡◌, ◌+◌, ◌<◌, ◌^◌, ◌⊎◌, [], List, false, length, map, vec_items, IfOk, OnErr, OnOk, None, Some};
 ghost use Rattle.tl_hash.specs.Bytes.{Bytes};
@@ -23,7 +23,7 @@ use tl_hash::Hash;
 use tl_ledger::Ledger;
 use tl_run::{LogSigner, RunFault, sign_checkpoint};
 
-/// A publication of a log that is due: its entries were put, and its note is signed and isn't on the shelf yet.
+/// A publication that is due: its entries were put, and its note is signed but not on the shelf yet.
 #[derive(Drop)]
 pub(crate) struct Due {
     /// The signed note of the log's checkpoint.
@@ -32,7 +32,7 @@ pub(crate) struct Due {
     pub(crate) from: u64,
 }
 
-// The publication of the log as it is, which had so many entries before.
+// Signs the publication of the log as it is; the publication before it had `from` entries.
 fn sign_due<K: LogSigner>(
     alloc: Global,
     key: &K,
@@ -51,8 +51,8 @@ fn sign_due<K: LogSigner>(
     }
 }
 
-// Ends a publication whose checkpoint is there, with this size and root: spent partial tiles and bundles are removed,
-// unless they are kept, and its head is printed.
+// Ends a publication whose checkpoint is there, with this size and root: removes spent partial tiles and bundles,
+// unless they are kept, and prints the size and the root.
 fn end_publication<S: Shelf, W: Write>(
     alloc: Global,
     from: u64,
@@ -82,7 +82,7 @@ fn end_publication<S: Shelf, W: Write>(
     }
 }
 
-/// Publishes what is due, if anything is, and prints its head. Nothing is due then.
+/// Publishes what is due, if anything is, and prints its size and root. Nothing is due then.
 pub(crate) fn publish_due<S: Shelf, W: Write>(
     alloc: Global,
     keeps_partials: bool,
@@ -121,7 +121,8 @@ pub(crate) fn publish_due<S: Shelf, W: Write>(
     }
 }
 
-// Puts a batch behind a log, together with the checkpoint of what is due, if anything is, and prints the head of that.
+// Puts a batch behind a log, together with the checkpoint of what is due, if anything is, and prints size and root of
+// that.
 fn put_with<S: Shelf, W: Write>(
     alloc: Global,
     batch: &[Vec<u8>],
@@ -170,9 +171,9 @@ fn put_with<S: Shelf, W: Write>(
     }
 }
 
-/// Puts a batch behind a log, and signs the note of that, which is then due: it has yet to be published. What was due
-/// before is published with what the batch adds, and its head printed. `Operator`: the log has no room for the batch;
-/// what was due is published then, too, and nothing put.
+/// Puts a batch behind a log, and signs its note, which is then due: it has yet to be published. What was due before
+/// is published with what the batch adds, and its size and root printed. `Operator`: the log has no room for the
+/// batch; what was due is published even then, and nothing is put.
 pub(crate) fn put_due<K: LogSigner, S: Shelf, W: Write>(
     alloc: Global,
     key: &K,

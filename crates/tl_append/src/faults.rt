@@ -1,4 +1,4 @@
-//! What the faults of lines, of a ledger and of its shelf are told as.
+//! The command's faults for those of lines, of a ledger and of its shelf.
 
 ghost use Rattle.std.specs.Prelude.{◌≡◌, Some};
 ghost use Rattle.tl_run.specs.Faults.{after_device};
@@ -14,7 +14,7 @@ use tl_lines::LineFault;
 use tl_run::{Place, RunFault};
 use tl_tile::Resource;
 
-/// What a command ends with where lines were not read.
+/// Returns the command's fault if lines couldn't be read.
 pub fn line_fault(fault: LineFault) -> RunFault
     ensures { result ≡ after_lines fault }
 {
@@ -27,14 +27,14 @@ pub fn line_fault(fault: LineFault) -> RunFault
     }
 }
 
-/// What a command ends with where a shelf failed.
+/// Returns the command's fault if a shelf failed.
 pub(crate) fn unkept(fault: ShelfFault) -> RunFault
     ensures { result ≡ after_shelf fault }
 {
     RunFault::of_device(Place::Log(fault.resource), fault.why)
 }
 
-/// What a command ends with where entries were not put.
+/// Returns the command's fault if entries weren't put.
 pub(crate) fn unput(fault: LedgerFault) -> RunFault
     ensures { result ≡ after_ledger fault }
 {
@@ -44,14 +44,14 @@ pub(crate) fn unput(fault: LedgerFault) -> RunFault
     }
 }
 
-// What a command ends with where a resource on the shelf isn't as it has to be.
+// Returns the command's fault if a resource on the shelf isn't as it has to be.
 fn unfit(resource: Resource, fault: DeviceFault) -> RunFault
     ensures { result ≡ after_device (Log (Some resource)) fault }
 {
     RunFault::of_device(Place::Log(Some(resource)), fault)
 }
 
-/// What a command ends with where a log was not opened.
+/// Returns the command's fault if a log wasn't opened.
 pub(crate) fn unopened(fault: OpenFault) -> RunFault
     ensures { result ≡ after_open fault }
 {
@@ -67,7 +67,7 @@ pub(crate) fn unopened(fault: OpenFault) -> RunFault
     }
 }
 
-/// What a command ends with where a proposal doesn't open.
+/// Returns the command's fault if a proposal doesn't open.
 pub(crate) fn unproposed(fault: OpenCheckpointFault) -> RunFault
     ensures { result ≡ after_proposal fault }
 {
@@ -77,7 +77,7 @@ pub(crate) fn unproposed(fault: OpenCheckpointFault) -> RunFault
     }
 }
 
-/// What a command ends with where a log may not go on, by its mark.
+/// Returns the command's fault if a log may not go on, by its mark.
 pub(crate) fn outrun(fault: MarkFault) -> RunFault
     ensures { result ≡ after_mark fault }
 {

@@ -107,16 +107,16 @@ impl Verifier for LogOpeningKey {
     }
 }
 
-/// The keys of a log: one that signs, and one that opens what it signed.
+/// The keys of a log: one that signs, and one that opens what that signed.
 #[derive(Drop)]
 pub struct LogKeys {
-    /// It signs.
+    /// Signs.
     pub signer: LogSigningKey,
-    /// It opens what the other signed.
+    /// Opens what `signer` signed.
     pub verifier: LogOpeningKey,
 }
 
-// The demonstration key of the log.
+// Returns the demonstration key of the log.
 fn demonstration(alloc: Global, origin: &str, secret: &str) -> Result<DemoKey<Global>, RunFault>
     ensures { IfOk result (λ key. key ≡ record { name = origin.now; secret = secret.now }) }
 {
@@ -127,8 +127,8 @@ fn demonstration(alloc: Global, origin: &str, secret: &str) -> Result<DemoKey<Gl
     }
 }
 
-/// The keys of a log of this name, by the key that its options tell: the one opens what the other signed. `BadOrigin`:
-/// they are of another name.
+/// Returns the keys of a log of this name, for the key that its options name: one signs, and the other opens what
+/// that signed. `BadOrigin`: the key has another name.
 pub fn keys_of<H: Files>(
     rt: &H,
     alloc: Global,

@@ -9,14 +9,14 @@ use tl_run::{LogSigner, RunFault};
 /// A log that was opened.
 #[derive(Drop)]
 pub struct OpenedLog {
-    /// What it goes on from.
+    /// The ledger from which it goes on.
     pub ledger: Ledger<Global>,
-    /// Whether it is due to be shown: it never was, or a proposal is kept that wasn't.
+    /// Whether it is due to be shown: it never was, or it is that of a proposal that is kept.
     pub is_due: bool,
 }
 
-/// A shelf with a log that grows in batches, each shown once it may be, and with who keeps what is proposed before.
-/// Contracts see of the shelf what is there and what is staged, now and after each call so far, and where it is.
+/// A shelf with a log that grows in batches, each shown once it may be, and with a store of proposals. Contracts see
+/// what is there and what is staged on the shelf, now and after each call so far, and the shelf's place.
 pub trait LogShelf: Drop {
     ghost use Rattle.std.specs.Prelude.{◌≡◌, ◌⊎◌, ℕ, ◌+◌, ◌<◌, ◌^◌, ◌∷◌, [], None, Some, Option, Bool, false, true, List, length, map, vec_items, IfOk, OnErr, OnOk};
     ghost use Rattle.sha2.specs.Sha256.{sha256};
@@ -36,41 +36,41 @@ pub trait LogShelf: Drop {
     /// What is there, and what is staged.
     ghost kept: { Self → Kept };
 
-    /// The same after each call so far.
+    /// What is there and what is staged, after each call so far.
     ghost trace: { Self → List Kept };
 
-    /// Where it is, as who opened it said. No call changes that.
+    /// The shelf's place, as it was given when it was opened. No call changes that.
     ghost place: { Self → Bytes };
 
-    /// How many entries were marked as published, last.
+    /// How many entries were marked as published last.
     ghost published: { Self → Option ℕ };
 
-    /// Whether what is read is what is there, as far as contracts can tell.
+    /// Whether reads are known to return what is there.
     ghost is_honest: { Bool };
 
-    /// Who must have cosigned what is shown. No call changes that.
+    /// The witnesses that must have cosigned what is shown. No call changes that.
     ghost quorum: { Self → Quorum };
 
-    /// Whether partial tiles and bundles stay that full ones have replaced. No call changes that.
+    /// Whether partial tiles and bundles are kept once full ones replace them. No call changes that.
     ghost keeps_partials: { Self → Bool };
 
-    /// Which note may be kept as the last proposal.
+    /// The note that may be kept as the last proposal.
     ghost may_have: { Self → Option Bytes → Type 0 };
 
     /// The shelf.
     type Shelf: Shelf;
 
-    /// The shelf.
+    /// Returns the shelf.
     fn shelf(&self) -> &Self::Shelf
         ensures kept { Self.Shelf.kept result.now ≡ kept self.now }
         ensures trace { Self.Shelf.trace result.now ≡ trace self.now }
         ensures mark { Self.Shelf.published result.now ≡ published self.now }
         ensures place { Self.Shelf.place result.now ≡ place self.now };
 
-    /// Opens the log, whose checkpoint the verifier has to open (C2SP tlog-checkpoint), as far as its checkpoint or the
-    /// proposal that is kept goes, whichever has more entries. `found` holds what was read. `Older`: more entries were
-    /// published, and that isn't allowed. `BadCheckpoint`: the checkpoint or, over no resource, the proposal doesn't
-    /// open, or is of another log: its origin isn't the verifier's name.
+    /// Opens the log, whose checkpoint opens under the verifier (C2SP tlog-checkpoint), at its checkpoint or at the
+    /// proposal that is kept, whichever has more entries. `found` holds what was read. `Older`: more entries were
+    /// published, and that isn't allowed. `BadCheckpoint`: the checkpoint or, if the fault names no resource, the
+    /// proposal doesn't open, or belongs to another log: its origin isn't the verifier's name.
     fn open(
         &mut self,
         alloc: Global,
@@ -99,11 +99,11 @@ pub trait LogShelf: Drop {
         ensures quorum { quorum self.new ≡ quorum self.old }
         ensures keeps { keeps_partials self.new ≡ keeps_partials self.old };
 
-    /// Puts a batch behind the log, which is the ledger's, and shows that under a note of its checkpoint by the key,
-    /// whose name is the log's, once its tiles and bundles outlast a crash and so many cosigned it as must. The size is
-    /// then marked, and spent partial tiles and bundles are removed, unless they are kept. At a fault the ledger's size
-    /// tells whether the batch was put. `Operator`: the log would have more than 2^32 - 1 entries, or too few cosigned
-    /// it.
+    /// Puts a batch behind the log of this ledger, and shows it under a note of its checkpoint by the key, whose name
+    /// is the log's, once its tiles and bundles outlast a crash and enough witnesses cosigned the note. The size is
+    /// then marked, and spent partial tiles and bundles are removed unless they are kept. At a fault the ledger's
+    /// size shows whether the batch was put. `Operator`: the log would have more than 2^32 - 1 entries, or too few
+    /// witnesses cosigned.
     fn append<K: LogSigner>(
         &mut self,
         alloc: Global,

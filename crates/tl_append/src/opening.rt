@@ -26,7 +26,7 @@ use tl_note::Verifier;
 use tl_run::{Place, RunFault};
 use tl_tile::Resource;
 
-// The number of entries of the checkpoint that a proposal is of, which has to be the log's.
+// Returns the size that a proposal states. Its checkpoint has to be the log's.
 fn proposed_size(
     alloc: Global,
     note: &str,
@@ -45,7 +45,7 @@ fn proposed_size(
     Ok(checkpoint.size)
 }
 
-// The ledger of the log on this shelf, as far as its checkpoint goes.
+// Opens the log on this shelf at its checkpoint.
 fn open_shown<S: Shelf>(
     alloc: Global,
     verifiers: &[Box<dyn Verifier>],
@@ -70,7 +70,7 @@ fn open_shown<S: Shelf>(
     Ok(OpenedLog { ledger, is_due })
 }
 
-// The proposal that is kept, where it has more entries than so many.
+// Returns the proposal that is kept if it has more than `size` entries.
 fn newer_proposal<P: ProposalStore>(
     alloc: Global,
     verifiers: &[Box<dyn Verifier>],
@@ -92,8 +92,8 @@ fn newer_proposal<P: ProposalStore>(
     }
 }
 
-// The ledger of the log on this shelf, as far as its checkpoint goes or the proposal that is kept, whichever has more
-// entries. Of an older proposal nothing is read: its partial tiles may be gone.
+// Opens the log on this shelf at its checkpoint or at the proposal that is kept, whichever has more entries. Nothing
+// of an older proposal is read: its partial tiles may be gone.
 fn open_newest<S: Shelf, P: ProposalStore>(
     alloc: Global,
     verifiers: &[Box<dyn Verifier>],
@@ -132,7 +132,7 @@ fn open_newest<S: Shelf, P: ProposalStore>(
     }
 }
 
-// As `open_ledger`, by these verifiers, of which this one is the only one.
+// Opens the log as `open_ledger` does; `own` is the only one of these verifiers.
 fn open_by<S: Shelf, P: ProposalStore>(
     alloc: Global,
     own: &Snapshot<LogOpeningKey>,
@@ -161,7 +161,7 @@ fn open_by<S: Shelf, P: ProposalStore>(
     }
 }
 
-/// Checks that a log has just so many entries, where a number is given. `Older`: it has another one.
+/// Checks that a log has exactly `start` entries, if a number is given. `Older`: it has another number.
 pub fn check_start(ledger: &Ledger<Global>, start: Option<u64>) -> Result<(), RunFault>
     ensures { OnOk result (IsStart start ledger.now.edge.size) }
 {
@@ -171,8 +171,8 @@ pub fn check_start(ledger: &Ledger<Global>, start: Option<u64>) -> Result<(), Ru
     }
 }
 
-/// Checks that a log begins as it is asked to, by what was found: if it is new there was none, and else there was one.
-/// `Taken`: there was one, and none was to be. `NothingThere`: there was none that could be gone on from.
+/// Checks that a log was found if and only if it isn't to begin. `Taken`: there was a log, and a new one was to
+/// begin. `NothingThere`: there was no log to go on from.
 pub fn check_asked(found: &Found<Global>, is_new: bool) -> Result<(), RunFault>
     ensures asked { OnOk result (BeginsAsAsked is_new found.now.head) }
     ensures outcome { result ≡ begin_outcome is_new (is_some found.now.head) }
@@ -187,10 +187,11 @@ pub fn check_asked(found: &Found<Global>, is_new: bool) -> Result<(), RunFault>
     }
 }
 
-/// Opens the log on this shelf, whose checkpoint the verifier has to open (C2SP tlog-checkpoint), as far as that goes
-/// or the proposal that the store keeps, whichever has more entries: of no entries where there is neither. `found` has
+/// Opens the log on this shelf, whose checkpoint opens under the verifier (C2SP tlog-checkpoint), at that or at the
+/// proposal that the store keeps, whichever has more entries. If there is neither, the log is empty. `found` holds
 /// what was read. `Older`: more entries were published, and that isn't allowed. `BadCheckpoint`: the checkpoint or,
-/// over no resource, the proposal doesn't open, or is of another log: its origin isn't the verifier's name.
+/// if the fault names no resource, the proposal doesn't open, or belongs to another log: its origin isn't the
+/// verifier's name.
 pub fn open_ledger<S: Shelf, P: ProposalStore>(
     alloc: Global,
     verifier: LogOpeningKey,

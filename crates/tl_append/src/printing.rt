@@ -1,4 +1,4 @@
-//! What is printed of a publication.
+//! Printing a publication.
 
 ghost use Rattle.std.specs.Prelude.{OnOk};
 ghost use Rattle.tl_device.specs.Device.{WroteWhole, passage};
@@ -11,7 +11,7 @@ use tl_device::Counted;
 use tl_hash::Hash;
 use tl_run::{RunFault, print_text};
 
-/// Prints the line of a log's size and root, with a space between, the root in base64.
+/// Prints a line with a log's size and root, the root in base64 after a space.
 pub(crate) fn print_head<W: Write>(
     alloc: Global,
     writer: &mut Counted<W>,

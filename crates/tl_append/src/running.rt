@@ -1,4 +1,4 @@
-//! A run of the command `append`.
+//! The command `append`.
 
 ghost use Rattle.std.specs.Prelude.{◌≡◌, ◌⊎◌, ◌∷◌, [], true, false, string_bytes, OnErr, OnOk};
 ghost use Rattle.tl_device.specs.Device.{passage};
@@ -27,7 +27,7 @@ use tl_ledger::Found;
 use tl_note::is_key_name;
 use tl_run::RunFault;
 
-// Appends to the log on the shelf under these keys.
+// Appends the lines of the input to the log on the shelf under these keys.
 fn append_under<S: Shelf, P: ProposalStore, R: Read, W: Write>(
     alloc: Global,
     keys: LogKeys,
@@ -86,11 +86,11 @@ fn append_under<S: Shelf, P: ProposalStore, R: Read, W: Write>(
     }
 }
 
-/// Appends the lines of the input to the log on the shelf, or to a new one: it is published after so many entries as the
-/// options say, and at the end, and each time a line with size and root is printed. It goes on from the checkpoint that
-/// was there or the proposal of the store, as `open_ledger` does, which is to have `start` entries where that is given;
-/// `found` holds what was read. `Taken`: there is a log, and none is to be. `NothingThere`: there is none, and none is
-/// to begin. `Older`: more entries were published, or it hasn't got so many.
+/// Appends the lines of the input to the log on the shelf, or to a new one, and publishes it after each batch and at
+/// the end, with a printed line of size and root each time. The log goes on from its checkpoint or the store's
+/// proposal (`open_ledger`), and has to have `start` entries, if given; `found` holds what was read. `Taken`: there
+/// is a log, and a new one was to begin. `NothingThere`: there is no log. `Older`: more entries were published, or
+/// the log doesn't have `start`.
 pub fn run_append<H: Files, S: Shelf, P: ProposalStore, R: Read, W: Write>(
     rt: &H,
     alloc: Global,

@@ -1,4 +1,4 @@
-//! Shelves with a log, each batch of which is shown once its note is sealed.
+//! A shelf whose log is shown under sealed notes.
 
 ghost use Rattle.std.specs.Prelude.{◌≡◌, ◌+◌, ◌<◌, ◌^◌, length, map, string_bytes, vec_items, IfOk, OnErr, OnOk, Option, Some};
 ghost use Rattle.tl_hash.specs.Bytes.{Bytes};
@@ -21,7 +21,7 @@ use tl_archive::Shelf;
 use tl_ledger::{Found, Ledger};
 use tl_run::{LogSigner, RunFault, sign_checkpoint};
 
-// The note of the log's checkpoint by the key, as it is shown.
+// Signs the note of the log's checkpoint by the key, and returns it as it is shown.
 fn sealed_note<K: LogSigner, P: ProposalStore, Z: SealsNotes>(
     alloc: Global,
     key: &K,
@@ -48,7 +48,7 @@ fn sealed_note<K: LogSigner, P: ProposalStore, Z: SealsNotes>(
     }
 }
 
-/// A shelf with a log, each batch of which is shown under the note that a sealer makes of the log's own.
+/// A shelf with a log. Each batch is shown under the note that a sealer makes of the log's own.
 #[derive(Drop)]
 pub struct SealedShelf<S, P, Z> {
     shelf: S,
@@ -58,8 +58,8 @@ pub struct SealedShelf<S, P, Z> {
 }
 
 impl<S: Shelf + Drop, P: ProposalStore + Drop, Z: SealsNotes + Drop> SealedShelf<S, P, Z> {
-    /// This shelf, who keeps proposals, and who seals notes. `keeps_partials`: partial tiles and bundles stay that full
-    /// ones have replaced.
+    /// Makes a log's shelf of a shelf, a store of proposals and a sealer of notes. `keeps_partials`: partial tiles
+    /// and bundles are kept once full ones replace them.
     pub fn new(shelf: S, store: P, sealer: Z, keeps_partials: bool) -> SealedShelf<S, P, Z>
         ensures kept { ⟦<SealedShelf<S, P, Z> as LogShelf>⟧.kept result ≡ S.kept shelf }
         ensures trace { ⟦<SealedShelf<S, P, Z> as LogShelf>⟧.trace result ≡ S.trace shelf }
@@ -82,7 +82,7 @@ impl<S: Shelf + Drop, P: ProposalStore + Drop, Z: SealsNotes + Drop> SealedShelf
         }
     }
 
-    // Puts a batch behind a log, and shows that once its note is sealed.
+    // Puts a batch behind the log, and shows it once its note is sealed.
     fn show<K: LogSigner>(
         &mut self,
         alloc: Global,
@@ -122,7 +122,7 @@ impl<S: Shelf + Drop, P: ProposalStore + Drop, Z: SealsNotes + Drop> SealedShelf
         }
     }
 
-    /// The shelf.
+    /// Returns the shelf itself.
     pub fn into_shelf(self) -> S
         ensures kept { S.kept result ≡ ⟦<SealedShelf<S, P, Z> as LogShelf>⟧.kept self }
         ensures trace { S.trace result ≡ ⟦<SealedShelf<S, P, Z> as LogShelf>⟧.trace self }

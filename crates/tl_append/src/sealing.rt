@@ -1,4 +1,4 @@
-//! Who makes of a log's own note what is shown.
+//! Making the note that is shown of a log's own note.
 
 ghost use Rattle.std.specs.Prelude.{◌≡◌, ◌++◌, string_bytes, IfOk, OnOk};
 ghost use Rattle.tl_hash.specs.Bytes.{Bytes};
@@ -9,17 +9,17 @@ use crate::proposal::ProposalStore;
 use std::alloc::Global;
 use tl_run::RunFault;
 
-/// Who makes of a log's own note what is shown.
+/// Makes the note that is shown of a log's own note.
 pub trait SealsNotes {
     ghost use Rattle.std.specs.Prelude.{◌≡◌, ◌++◌, string_bytes, IfOk};
     ghost use Rattle.tl_hash.specs.Bytes.{Bytes};
     ghost use Rattle.tl_append.specs.Cosigning.{HasQuorum, Quorum};
 
-    /// Who must have cosigned what is shown. No call changes that.
+    /// The witnesses that must have cosigned what is shown. No call changes that.
     ghost quorum: { Self → Quorum };
 
-    /// The note, and behind it lines by which enough witnesses cosigned it (C2SP tlog-cosignature). It may wait.
-    /// `Operator`: too few did.
+    /// Returns the note with lines behind it by which enough witnesses cosigned it (C2SP tlog-cosignature). It may
+    /// wait for them. `Operator`: too few did.
     fn seal<P: ProposalStore>(
         &mut self,
         alloc: Global,
@@ -32,7 +32,7 @@ pub trait SealsNotes {
         ensures same { quorum self.new ≡ quorum self.old };
 }
 
-/// Nobody has to cosign: the note is shown as the log signed it.
+/// A sealer without witnesses: the note is shown as the log signed it.
 #[derive(Clone, Copy, Debug, PartialEq, Eq)]
 pub struct AsSigned;
 
@@ -51,7 +51,7 @@ impl SealsNotes for AsSigned {
     }
 }
 
-/// Who asks witnesses, and who checks what they answer. The note is kept as what is proposed before anybody is asked.
+/// A sealer that asks witnesses and checks their answers. The note is kept as a proposal before any witness is asked.
 #[derive(Drop)]
 pub struct Cosigners<Q, C> {
     asker: Q,
@@ -61,7 +61,7 @@ pub struct Cosigners<Q, C> {
 impl<Q: AsksCosigners, C: ChecksCosigned> Cosigners<Q, C> {
     ghost use Rattle.std.specs.Prelude.{◌≡◌};
 
-    /// These two.
+    /// Creates a sealer that asks by `asker` and checks by `quorum`.
     pub fn new(asker: Q, quorum: C) -> Cosigners<Q, C>
         ensures { ⟦<Cosigners<Q, C> as SealsNotes>⟧.quorum result ≡ C.quorum quorum }
     {
@@ -85,7 +85,7 @@ impl<Q: AsksCosigners, C: ChecksCosigned> SealsNotes for Cosigners<Q, C> {
     }
 }
 
-// A note, kept as what is proposed, and behind it lines by which enough witnesses cosigned it.
+// Keeps a note as a proposal, and returns it with lines behind it by which enough witnesses cosigned it.
 fn cosign<P: ProposalStore, Q: AsksCosigners, C: ChecksCosigned>(
     alloc: Global,
     store: &mut P,

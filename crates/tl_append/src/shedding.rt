@@ -9,8 +9,8 @@ use tl_archive::Shelf;
 use tl_ledger::remove_spent;
 use tl_run::RunFault;
 
-/// Removes the partial tiles and bundles that are spent since the log had `from` entries (C2SP tlog-tiles, "Partial
-/// Tiles"), unless they are kept, where the checkpoint of `size` entries is there.
+/// Removes the partial tiles and bundles that are spent since the log had `from` entries, unless they are kept (C2SP
+/// tlog-tiles, "Partial Tiles"). The checkpoint of `size` entries has to be there.
 pub(crate) fn shed_spent<S: Shelf>(
     from: u64,
     size: u64,

@@ -1,4 +1,4 @@
-//! Loops to measure, one word each. The scripts in `bench/` run them beside the program.
+//! Loops to measure, chosen by a word each. The scripts in `bench/` run them beside the program.
 #![tactic(auto)]
 
 mod rings;
@@ -14,7 +14,7 @@ use std::thread::Threads;
 use std::time::Clock;
 use std::{env, io};
 
-// The digest of the first bytes of a message, written over its front.
+// Hashes the first bytes of a message, and writes the digest over its front.
 fn digest_once(message: &mut [u8; 4096], length: usize) {
     let mut hasher = Sha256::new();
     hasher.update(&message[..length.min(4096)]);
@@ -22,8 +22,8 @@ fn digest_once(message: &mut [u8; 4096], length: usize) {
     message[..32].copy_from_slice(&digest);
 }
 
-// So many SHA-256 digests of messages of this many bytes, each with the digest before it at its front: the last one's
-// first byte.
+// Makes this many SHA-256 digests of messages of this length, each with the digest before it at its front, and
+// returns the first byte of the last one.
 fn digests(count: u64, length: usize) -> u8 {
     let mut message = [0u8; 4096];
     for _ in 0..count {
@@ -32,7 +32,7 @@ fn digests(count: u64, length: usize) -> u8 {
     message[0]
 }
 
-// Digests as the words say, two by two: so many of so many bytes each.
+// Makes digests for each pair of words: how many, and of how many bytes.
 fn sha256(rt: &impl Print, words: &[String]) -> io::Result<bool> {
     for pair in words.chunks(2) {
         let [count, length] = pair else {
@@ -49,7 +49,7 @@ fn sha256(rt: &impl Print, words: &[String]) -> io::Result<bool> {
     Ok(true)
 }
 
-// Measures the loop of a word. Whether it is one, and was measured to its end.
+// Measures the loop that a word names. Reports whether there is one, and it was measured to its end.
 fn measured<R: Threads + Wait + Clock + Print + Copy + Send + 'static>(
     rt: &R,
     alloc: Global,

@@ -1,4 +1,4 @@
-//! Entries a second through the rings of a sequencer, beside the same through one lock.
+//! Measures how many entries a second go through the rings of a sequencer, and through one lock.
 
 use std::alloc::{AllocError, Global};
 use std::sync::{Arc, Mutex, Wait};
@@ -9,14 +9,14 @@ use tl_sequencer::{Sequencer, Submitter, open};
 
 const LANES: u32 = 4;
 
-// Entries that each thread sends.
+// How many entries each thread sends.
 const EACH: u64 = 2_500_000;
 
 const ENTRIES: u64 = 10_000_000;
 
 const BYTES: usize = 32;
 
-// Room in each ring, and the most entries that one `take` gives.
+// The room in each ring, and the most entries that one `take` gives.
 const CAPACITY: usize = 256;
 
 const BATCH: u64 = 256;
@@ -24,7 +24,7 @@ const BATCH: u64 = 256;
 // More entries than are sent, so that the log is never full.
 const LIMIT: u64 = 4_294_967_295;
 
-// How many entries a second that is, if the time is long enough to tell.
+// Returns how many entries a second that is, or 0 if the time is too short to tell.
 fn rate(took: Duration) -> u128 {
     match took.as_micros() {
         0 => 0,
@@ -44,7 +44,7 @@ fn send_when_free(submitter: &mut Submitter<Global, Global>, entry: Vec<u8>) {
     }
 }
 
-// What the thread of a lane does: it sends its entries.
+// Sends the entries of a lane's thread.
 fn send_each(alloc: Global, submitter: Submitter<Global, Global>) -> Result<(), AllocError> {
     let mut submitter = submitter;
     for _ in 0..EACH {
@@ -73,7 +73,7 @@ fn take_each(log: &mut Sequencer<Global, Global>) -> bool {
     false
 }
 
-// The time until all entries are in the log, where memory was there for it.
+// Returns the time until all entries are in the log, or `None` if allocation fails.
 fn through_rings<R: Threads + Clock>(rt: &R, alloc: Global) -> io::Result<Option<Duration>> {
     let Ok((mut log, submitters)) = open(alloc, LANES, CAPACITY, LIMIT) else {
         return Ok(None);
@@ -91,7 +91,7 @@ fn through_rings<R: Threads + Clock>(rt: &R, alloc: Global) -> io::Result<Option
     Ok(whole.then_some(took))
 }
 
-// What a thread does with a list behind a lock.
+// Pushes the entries of a thread onto a list behind a lock.
 fn push_each(
     rt: &impl Wait,
     alloc: Global,
@@ -105,7 +105,7 @@ fn push_each(
     Ok(())
 }
 
-// The time until all entries are in the list.
+// Returns the time until all entries are in the list.
 fn through_lock<R: Threads + Wait + Clock + Copy + Send + 'static>(
     rt: &R,
     alloc: Global,
@@ -124,8 +124,8 @@ fn through_lock<R: Threads + Wait + Clock + Copy + Send + 'static>(
     start.elapsed(rt)
 }
 
-/// Prints how many entries a second four threads get into one list: through rings of 256 with batches of 256, and
-/// through a lock. False where memory was refused.
+/// Prints how many entries a second four threads get into one list, through rings of 256 with batches of 256, and
+/// through a lock. Returns false if allocation fails.
 pub fn sequencer<R: Threads + Wait + Clock + Print + Copy + Send + 'static>(
     rt: &R,
     alloc: Global,

@@ -1,18 +1,19 @@
-//! Ed25519 signatures made and checked a second.
+//! Measures Ed25519 signatures and their checks.
 
 use std::io;
 use std::time::{Clock, Duration, Instant};
 use tl_ed25519::{SecretKey, sign, verify};
 
-// Signatures of each kind that are made and checked.
+// How many signatures of each kind are made and checked.
 const COUNT: u64 = 4_000;
 
-// Microseconds that one of them took.
+// Returns how many microseconds one of them took.
 fn each(took: Duration) -> u128 {
     took.as_micros() / COUNT as u128
 }
 
-// Signs so many messages with a key object, and checks each signature: how long both took, and how many were accepted.
+// Signs messages with a key object, and checks each signature. Returns how long both took, and how many were
+// accepted.
 fn measured<R: Clock>(rt: &R, key: &SecretKey) -> io::Result<(Duration, Duration, u64)> {
     let mut making = Duration::ZERO;
     let mut checking = Duration::ZERO;

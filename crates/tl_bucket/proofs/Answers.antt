@@ -1,4 +1,4 @@
--- What answers to requests tell.
+-- What answers to requests show.
 use Rattle.std.proofs.Common.{◌≡◌, ℕ, Global, inl, inr, sym, subst, string_bytes, vec_items, Option, Some, String}
 use Rattle.std.specs.Prelude.{Ok, Err, Result, IfOk}
 use Rattle.tl_device.specs.Device.{Passage}
@@ -43,7 +43,7 @@ pub there : (p : Place) (content : Content) (condition : Condition) (etag : Opti
 there p content condition etag (inl put) = inl (record { etag = etag; body = put.body; put = put.put })
 there p content condition etag (inr got) = inr (read p content.path content.body etag got)
 
--- the tag of what was read, where that is this
+-- the tag of what was read, if its bytes are these
 pub tag_of : (p : Place) (path body note : Bytes) (etag : Option Bytes) (r : Result (String Global) BucketFault) → WasReadWith p path body etag → body ≡ note
     → IfOk r (λ tag. (text : Bytes) × (etag ≡ Some text) × IsBare text (string_bytes tag)) → IfOk r (λ tag. (text : Bytes) × WasReadWith p path note (Some text) × IsBare text (string_bytes tag))
 tag_of p path body note etag (Ok tag) found same is =

@@ -1,4 +1,4 @@
--- A commit that is put.
+-- Putting a commit.
 use Rattle.std.proofs.Common.{◌≡◌, ℕ, ◌+◌, ◌++◌, inr, None, ap, subst, ◌∙◌}
 use Rattle.tl_hash.specs.Bytes.{Bytes}
 use Rattle.tl_s3.specs.Objects.{Place}

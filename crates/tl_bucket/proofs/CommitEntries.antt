@@ -1,4 +1,4 @@
--- Entries one after another, each with its length in front.
+-- Entries one after another, each with its length before it.
 use Rattle.std.proofs.Common.{◌≡◌, ℕ, ◌<◌, inl, inr, List, [], ◌∷◌, ◌++◌, length, take, drop, refl, sym, ap, ◌∙◌, append_assoc, append-nil, arith}
 use Rattle.std.specs.Prelude.{◌≢◌}
 use Rattle.std.proofs.lemmas.Bool.{cases_lt}
@@ -16,7 +16,7 @@ use Rattle.tl_bucket.specs.Commits.{IsBehind}
 abbrev pub HasNoEntry : Bytes → Type 0
 HasNoEntry bytes = (entry rest : Bytes) → IsShortEntry entry → bytes ≢ bundled_entry entry ++ rest
 
--- fewer entries than those of a text were read of it, so another one follows
+-- if fewer entries than all were read, another one follows
 next_entry : (count : ℕ) (bytes rest tail : Bytes) (read all : List Bytes) → HasRead bytes count read rest → AreShortEntries all → bytes ≡ bundle_text all ++ tail → count < length all → HasNoEntry rest → ⊥
 next_entry count bytes rest tail read all so_far short spelled more none =
     go (drop count all) (omega (arith, length-drop count all)) (All-drop IsShortEntry count all short) refl
@@ -35,7 +35,7 @@ next_entry count bytes rest tail read all so_far short spelled more none =
 pub none_behind : (count width : ℕ) (bytes rest tail : Bytes) (read : List Bytes) → HasRead bytes count read rest → count < width → HasNoEntry rest → ¬ (IsBehind bytes width tail)
 none_behind count width bytes rest tail read so_far less none is = next_entry count bytes rest tail read is.entries so_far is.short is.spelled (omega (arith, is.counted)) none
 
--- where bytes are left of those of entries, fewer entries were read
+-- if bytes are left, fewer entries than all were read
 more_left : (count : ℕ) (bytes rest : Bytes) (read all : List Bytes) → HasRead bytes count read rest → AreShortEntries all → bytes ≡ bundle_text all → 0 < length rest → count < length all
 more_left count bytes rest read all so_far short spelled some = elim (cases_lt count (length all)) [
   | inl less ↦ less
@@ -57,7 +57,7 @@ no_entries count bytes rest read all so_far some none short spelled =
 none_in_nothing : HasNoEntry []
 none_in_nothing e rest short is = absurd (omega (arith, ap length is, length-append (bundled_entry e) rest, length-append (to_be_bytes w16 (length e)) e))
 
--- no entries have the bytes of more of them
+-- lists of different lengths have different bytes
 no_more : (es fs : List Bytes) → AreShortEntries es → AreShortEntries fs → bundle_text es ≡ bundle_text fs → length es < length fs → ⊥
 no_more es fs short_e short_f same less =
     let read : HasRead (bundle_text es) (length es) es [] = record { joined = sym (append-nil (bundle_text es)); short = short_e; len = refl } in

@@ -1,4 +1,4 @@
--- Bytes are those of one commit.
+-- Bytes are those of at most one commit.
 use Rattle.std.proofs.Common.{◌≡◌, ℕ, List, sym, ap, ◌∙◌, arith}
 use Rattle.std.proofs.lemmas.Fmt.{decimal_injective}
 use Rattle.tl_hash.specs.Bytes.{Bytes}

@@ -83,13 +83,13 @@ number_utf8 n small = IsUtf8-from_ascii (number_text n) (IsAscii-decimal n (omeg
 abbrev pub title : Bytes
 title = 116 ∷ 108 ∷ 111 ∷ 103 ∷ 32 ∷ 99 ∷ 111 ∷ 109 ∷ 109 ∷ 105 ∷ 116 ∷ 10 ∷ []
 
--- what a prefix was stripped of
+-- the rest of bytes from which a prefix was stripped
 pub stripped : (whole word : Bytes) (r : Option (Bor Bytes))
     → MatchOption r (pointwise eqb (take (length word) whole) word ≡ false) (λ x. (pointwise eqb (take (length word) whole) word ≡ true) × (x.now ≡ drop (length word) whole) × (length x.now + length word ≡ length whole))
     → MatchOption r ((rest : Bytes) → whole ≢ word ++ rest) (λ x. whole ≡ word ++ x.now)
 stripped whole word r cut = strip_prefix_is Decides-eqb whole word r cut
 
--- line by line
+-- the front of a commit, line by line
 lines : (start : ℕ) (token rest : Bytes) → commit_front start token ++ rest ≡ title ++ (line (number_text start) ++ (line token ++ (10 ∷ rest)))
 lines start token rest = simp append_assoc
 
@@ -97,13 +97,13 @@ lines start token rest = simp append_assoc
 pub behind_title : (bytes r : Bytes) (start : ℕ) (token rest : Bytes) → bytes ≡ title ++ r → bytes ≡ commit_front start token ++ rest → r ≡ line (number_text start) ++ (line token ++ (10 ∷ rest))
 behind_title bytes r start token rest is e = append_cancel_left title r (line (number_text start) ++ (line token ++ (10 ∷ rest))) (sym is ∙ e ∙ lines start token rest)
 
--- a number was cut off behind it
+-- the line cut off behind the title is the number, and the token follows it
 pub behind_number : (bytes r words s : Bytes) (start : ℕ) (token rest : Bytes) → bytes ≡ title ++ r → r ≡ line words ++ s → HasNoControl words → IsSize start → bytes ≡ commit_front start token ++ rest
     → (words ≡ number_text start) × (s ≡ line token ++ (10 ∷ rest))
 behind_number bytes r words s start token rest is cut plain small e =
     one_line words (number_text start) s (line token ++ (10 ∷ rest)) plain (number_plain start (omega arith)) (sym cut ∙ behind_title bytes r start token rest is e)
 
--- lines that were cut off one by one
+-- lines that were cut off one by one make up the front
 pub joined : (bytes r words s token t rest : Bytes) (start : ℕ) → bytes ≡ title ++ r → r ≡ line words ++ s → words ≡ number_text start → s ≡ line token ++ t → t ≡ 10 ∷ rest → bytes ≡ commit_front start token ++ rest
 joined bytes r words s token t rest start first second number third last =
     first
@@ -112,7 +112,7 @@ joined bytes r words s token t rest start first second number third last =
     ∙ ap (λ (x : Bytes). line (number_text start) ++ x) (third ∙ ap (λ (x : Bytes). line token ++ x) last))
     ∙ sym (lines start token rest)
 
--- bytes have one front
+-- bytes have at most one front
 pub one_front : (start other : ℕ) (token mark x y : Bytes) → IsSize start → IsSize other → HasNoControl token → HasNoControl mark → commit_front start token ++ x ≡ commit_front other mark ++ y
     → (number_text start ≡ number_text other) × (token ≡ mark) × (x ≡ y)
 one_front start other token mark x y small_start small_other plain_token plain_mark e =

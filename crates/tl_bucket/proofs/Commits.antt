@@ -1,4 +1,4 @@
--- Logs after some commits of one store.
+-- Logs after the commits of one store.
 use Rattle.std.proofs.Common.{◌≡◌, ℕ, zero, suc, ◌<◌, ◌≤◌, inl, inr, ◌⊎◌, List, [], ◌∷◌, ◌++◌, length, Some, refl, sym, ap, ◌∙◌, subst, append-nil, append_assoc, arith}
 use Rattle.std.specs.Prelude.{Contains}
 use Rattle.std.proofs.lemmas.Bool.{cases_eq}
@@ -23,7 +23,7 @@ total (suc m) (suc n) = elim (total m n) as (λ _. (suc m ≤ suc n) ⊎ (suc n 
   | inr ge ↦ inr (omega (arith, ge))
 ]
 
--- one log after so many commits
+-- the log after the first n commits is unique
 pub same_log : (store : Store) (n : ℕ) (a b : List Bytes) → Committed store n a → Committed store n b → a ≡ b
 same_log store zero a b is was = is ∙ sym was
 same_log store (suc n) a b (front, batch, before, at, joined) (front', batch', before', at', joined') =
@@ -32,7 +32,7 @@ same_log store (suc n) a b (front, batch, before, at, joined) (front', batch', b
     let same : front ++ batch ≡ front' ++ batch' = (λ i. f i ++ g i) in
     sym joined ∙ same ∙ joined'
 
--- the log after fewer commits begins the log after more
+-- the log after fewer commits is a prefix of the log after more
 pub log_extends : (store : Store) (m n : ℕ) (a b : List Bytes) → m ≤ n → Committed store m a → Committed store n b → Begins a b
 log_extends store zero n a b le is was = (b, ap (λ (t : List Bytes). t ++ b) is)
 log_extends store (suc m) zero a b le is was = absurd (omega (arith, le))
@@ -50,7 +50,7 @@ none_left : (xs : List Bytes) → length xs ≡ 0 → xs ≡ []
 none_left [] e = refl
 none_left (x ∷ xs) e = absurd (omega (arith, e))
 
--- what begins a list that is no longer than it is the list
+-- if b is a prefix of a and no shorter, a is a prefix of b
 begins_back : (a b : List Bytes) → Begins b a → length a ≤ length b → Begins a b
 begins_back a b (rest, joined) le =
     let sum = length-append b rest in
@@ -58,21 +58,21 @@ begins_back a b (rest, joined) le =
     let none : rest ≡ [] = none_left rest (omega (arith, sum, long, le)) in
     ([], append-nil a ∙ sym joined ∙ ap (λ (t : List Bytes). b ++ t) none ∙ append-nil b)
 
--- of two logs of one store one begins the other
+-- of two logs of one store one is a prefix of the other
 pub consistent : (store : Store) (a b : List Bytes) → IsCommitted store a → IsCommitted store b → AreConsistent a b
 consistent store a b (m, is) (n, was) = elim (total m n) as (λ _. AreConsistent a b) [
   | inl le ↦ inl (log_extends store m n a b le is was)
   | inr ge ↦ inr (log_extends store n m b a ge was is)
 ]
 
--- and the one with no more entries does
+-- of two logs of one store the one with no more entries is a prefix of the other
 pub by_size : (store : Store) (a b : List Bytes) → IsCommitted store a → IsCommitted store b → length a ≤ length b → Begins a b
 by_size store a b is was le = elim (consistent store a b is was) as (λ _. Begins a b) [
   | inl front ↦ front
   | inr back ↦ begins_back a b back le
 ]
 
--- what begins another has the same bytes under a resource that it needs
+-- a log and its prefix have the same bytes under a resource that the prefix needs
 pub begun_bytes : (H : Digest) (a b : List Bytes) (r : Resource) → Begins a b → Contains (needed_resources (length a)) r → text_of H r b ≡ text_of H r a
 begun_bytes H a b r begins has = ap (text_of H r) (sym begins.1) ∙ needed_bytes_stay H a begins.0 r has
 

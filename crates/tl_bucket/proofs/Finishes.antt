@@ -1,4 +1,4 @@
--- Commits that are finished, one after another.
+-- Finishing commits, one after another.
 use Rattle.std.proofs.Common.{◌≡◌, inl, inr, ℕ, ◌+◌, ◌-◌, ◌<◌, ◌≤◌, List, [], ◌∷◌, ◌++◌, length, sym, ap, subst, ◌∙◌, append_assoc, add-zero, arith}
 use Rattle.std.proofs.Math.Nat.{eq-or-lt_of_le}
 use Rattle.std.proofs.lemmas.List.{append-nil, length-append}
@@ -20,14 +20,14 @@ use Rattle.tl_bucket.specs.Opened.{WasReadAs}
 
 -- ---- the first commit behind the log
 
--- the commits from this number on, below the last, begin at so many entries or behind them
+-- the commits from this number on, below `end`, come after `size` or more entries
 abbrev pub AreBehind : Place → ℕ → ℕ → ℕ → Type 0
 AreBehind p size end first = (n : ℕ) → first ≤ n → n < end → (c : Commit) × WasReadAs p n c × (size ≤ c.start)
 
 pub none_behind : (p : Place) (size end : ℕ) → AreBehind p size end end
 none_behind p size end n above below = absurd (let no : ⊥ = omega (arith, above, below) in no)
 
--- and the one before
+-- and so does the commit before them, if it was read so
 pub one_behind : (p : Place) (size end number less : ℕ) (c : Commit) → less ≡ number - 1 → 1 < number
     → WasReadAs p less c → size ≤ c.start → AreBehind p size end number → AreBehind p size end less
 one_behind p size end number less c eq above read from rest n low high =
@@ -45,7 +45,7 @@ is_batch p n size c batch read starts own = (
       (subst (λ (k : ℕ). WasReadAs p n (record { start = k; token = c.token; entries = c.entries })) starts read),
 )
 
--- some commits, and those behind them
+-- some commits, and those after them
 pub committed_on : (p : Place) (n m start end : ℕ) (xs ys : List (List Bytes)) → n + length xs ≡ m → start + length (joined xs) ≡ end
     → WereCommitted p n start xs → WereCommitted p m end ys → WereCommitted p n start (xs ++ ys)
 committed_on p n m start end [] ys counted sized before behind =
@@ -62,12 +62,12 @@ module _ (held : Held) (reached : Reached) where
   abbrev pub between : Bucketed → Bucketed → Ledger → Ledger → Course
   between a b was is = course (bucket_kept held reached) (bucket_trace held reached) a b was is
 
-  -- the same, by the calls alone
+  -- the course of a bucket and a ledger, from the calls alone
   abbrev by_calls : List Event → List Event → Ledger → Ledger → Course
   by_calls xs ys was is =
       along (after_calls reached 0 xs (at_first held)) (after_calls reached 0 ys (at_first held)) (after_each reached 0 xs (at_first held)) (after_each reached 0 ys (at_first held)) was is
 
-  -- a bucket whose calls are the same is the same
+  -- a step that leaves a bucket's calls as they are can be left out
   pub from_same : (P : Course → Type 0) (a m b : Bucketed) (was is : Ledger) → m.events ≡ a.events → P (between m b was is) → P (between a b was is)
   from_same P a m b was is same holds = subst (λ (events : List Event). P (by_calls events b.events was is)) same holds
 

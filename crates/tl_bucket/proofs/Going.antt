@@ -72,7 +72,7 @@ pub record IsFilled (setting : Setting) (entries : List Bytes) (rs : List Resour
   pub commits : later.store.commits ≡ w.store.commits
   pub shown : later.shown ≡ w.shown
 
--- the first of them, and then the others from there
+-- the first of the resources is put, and then the others
 fill_one : (setting : Setting) (n : ℕ) (entries : List Bytes) (r : Resource) (rs : List Resource) → Contains (needed_resources (length entries)) r
     → (w : World) → IsSound setting w → Committed w.store n entries
     → ((mid : World) → IsSound setting mid → Committed mid.store n entries → (later : World) × IsFilled setting entries rs mid later)
@@ -128,7 +128,7 @@ can_fill setting n entries (r ∷ rs) needs w sound is =
 
 -- ---- the checkpoint
 
--- where a commit is missing no log has more of them
+-- if the commit after a committed log is missing, no committed log has more entries
 few_commits : (w : World) (n : ℕ) (entries own : List Bytes) → Committed w.store n entries → w.store.commits (suc n) ≡ None → IsCommitted w.store own → length own ≤ length entries
 few_commits w n entries own is none (m, was) = elim (total m n) as (λ _. length own ≤ length entries) [
   | inl le ↦ fits le

@@ -9,14 +9,14 @@ use Rattle.tl_bucket.proofs.Commits.{is_there, total}
 use Rattle.tl_bucket.proofs.Grown.{CommitsStay, committed_stays, commits_after, either_store}
 use Rattle.tl_bucket.proofs.Sound.{IsSound, sound_at_first, on_event}
 
--- the log after the last commit, behind which there is none
+-- the log after the last commit, which none follows
 abbrev pub HasLast : Store → Type 0
 HasLast store = (n : ℕ) × (entries : List Bytes) × Committed store n entries × ((m : ℕ) → n < m → store.commits m ≡ None)
 
 none_or_some : {X : Type 0} (x : X) (o : Option X) → o ≡ None → o ≡ Some x → ⊥
 none_or_some x o none some = let e : None ≡ Some x = sym none ∙ some in cc
 
--- a commit with all before it is no further than the next
+-- a commit that has all before it comes at most right after the last
 within_next : (store : Store) (last : HasLast store) (k : ℕ) (front : List Bytes) → 0 < k → Committed store (k - 1) front → k ≤ suc last.0
 within_next store (n, entries, is, none) (suc k) front some before = elim (total k n) as (λ _. suc k ≤ suc n) [
   | inl le ↦ omega (arith, le)
@@ -31,7 +31,7 @@ within_next store (n, entries, is, none) (suc k) front some before = elim (total
 ]
 within_next store (n, entries, is, none) zero front some before = absurd (omega (arith, some))
 
--- the next commit is the last then
+-- the next commit is the last one then
 next_last : (store : Store) (last : HasLast store) (batch : List Bytes) → CommitsStay store (with_commit (suc last.0) batch store) → HasLast (with_commit (suc last.0) batch store)
 next_last store (n, entries, is, none) batch stay = (suc n, entries ++ batch, (entries, batch, committed_stays store later stay n entries is, put, refl), rest)
   where
@@ -46,7 +46,7 @@ next_last store (n, entries, is, none) batch stay = (suc n, entries ++ batch, (e
     rest m more = ap (λ (b : Bool). if b then put_new batch (store.commits m) else store.commits m) (ne_eqb m (suc n) (λ e. absurd (omega (arith, more, e))))
         ∙ none m (omega (arith, more))
 
--- and an earlier one changes nothing of that
+-- a put under an earlier number leaves the last commit
 same_last : (store : Store) (last : HasLast store) (k : ℕ) (batch : List Bytes) → k ≤ last.0 → CommitsStay store (with_commit k batch store) → HasLast (with_commit k batch store)
 same_last store (n, entries, is, none) k batch le stay = (n, entries, committed_stays store (with_commit k batch store) stay n entries is, rest)
   where

@@ -19,7 +19,7 @@ is_right setting w sound entries r bytes committed needed is =
     let own = sound.held r bytes (needed_within (length entries) r needed).1 is in
     own.bytes_of ∙ same_bytes setting.digest w.store own.entries entries r own.committed committed own.needed needed
 
--- what is there is right, so that it is there is enough
+-- what a committed log needs is right if it is there at all
 right_if_there : (setting : Setting) (w : World) → IsSound setting w → (entries : List Bytes) (r : Resource) → IsCommitted w.store entries
     → Contains (needed_resources (length entries)) r → (there : Option Bytes) → w.store.held r ≡ there → there ≢ None → w.store.held r ≡ Some (text_of setting.digest r entries)
 right_if_there setting w sound entries r committed needed None is some = absurd (some refl)

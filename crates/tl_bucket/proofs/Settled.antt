@@ -30,7 +30,7 @@ were_there p (s ∷ more) all item has =
       | inr later ↦ were_there p more (All-tail (IsThere p) s more all) item later
     ]
 
--- what a worker tells
+-- the outcome of a worker
 pub worked : (r : Result (Unit {0}) BucketFault) (p q : Place) (slice staged : List Staged) → q ≡ p → slice ≡ staged → OnOk r (All (IsThere q) slice) → OnOk r (WereThere p (map item_of staged))
 worked (Ok done) p q slice staged same is all =
     were_there p staged (subst (λ (x : Place). All (IsThere x) staged) same (subst (All (IsThere q)) is all))
@@ -78,14 +78,14 @@ pub noted : (p : Place) (shown : Option Shown) (note text etag : Bytes) → text
 noted p shown note text etag is put =
     subst (λ (n : Bytes). NoteWasThere p shown (Some n) (Some (record { note = n; etag = etag }))) is put
 
--- the same, where its tag was read again
+-- the checkpoint that was put, if its tag was read again
 pub noted_again : (p : Place) (before : Option Shown) (c : Condition) (note : Bytes) (r : Result (String Global) BucketFault) → IsReplacing before c
     → IfOk r (λ tag. (text : Bytes) × WasReadWith p (place_of [] resource.Checkpoint) note (Some text) × IsBare text (string_bytes tag))
     → IfOk r (λ tag. NoteWasThere p before (Some note) (Some (record { note = note; etag = string_bytes tag })))
 noted_again p before c note (Ok tag) replacing read = (c, replacing, (read.0, inr read.1, (string_bytes tag, read.2, refl)))
 noted_again p before c note (Err fault) replacing read = tt
 
--- the checkpoint that is there tells a size
+-- the checkpoint that is there states a size
 pub tells_shown : (shown : Option Shown) (note : Bytes) (size : ℕ) → Some note ≡ option_map (λ (s : Shown). s.note) shown → TellsSize note size → ShowsSize shown size
 tells_shown shown note size same tells =
     told_by shown (subst (λ (o : Option Bytes). MatchOption o ⊥ (λ (n : Bytes). TellsSize n size)) same tells)

@@ -20,15 +20,15 @@ use Rattle.tl_bucket.specs.Histories.{NeverShrinks, HaveOneTag}
 use Rattle.tl_bucket.proofs.Commits.{some_same, by_size}
 use Rattle.tl_bucket.proofs.Sound.{IsSound, sound_at_first, on_event}
 
--- none has more entries than the last
+-- no publication has more entries than the last
 abbrev pub TopsAll : List Prefix → Type 0
 TopsAll history = (p : Prefix) → last_of history ≡ Some p → (q : Prefix) → Contains history q → length q.entries ≤ length p.entries
 
--- it never shrinks, and the last has the most entries; or two notes have one tag
+-- the history never shrinks, and the last publication has the most entries; or two notes have one tag
 abbrev pub IsOrdered : (Bytes → Bytes) → List Prefix → Type 0
 IsOrdered tag history = (NeverShrinks history × TopsAll history) ⊎ HaveOneTag tag history
 
--- ---- lists with one more at the end
+-- ---- lists with one element more at the end
 
 pub last_pushed : (history : List Prefix) (q : Prefix) → last_of (history ++ q ∷ []) ≡ Some q
 last_pushed [] q = refl
@@ -40,7 +40,7 @@ last_has [] p is = absurd (cc)
 last_has (q ∷ []) p is = subst (Contains (q ∷ [])) (some_same q p is) (has_head q [])
 last_has (q ∷ r ∷ history) p is = has_tail q (r ∷ history) p (last_has (r ∷ history) p is)
 
--- where there is no last note nothing was shown
+-- if there is no last note, nothing was shown
 none_shown : (history : List Prefix) → None ≡ note_if (last_of history) → history ≡ []
 none_shown [] is = refl
 none_shown (p ∷ []) is = absurd (cc)
@@ -50,7 +50,7 @@ none_shown (p ∷ r ∷ history) is = absurd (some_last p r history is)
     some_last p r [] is = cc
     some_last p r (s ∷ history) is = some_last r s history is
 
--- and where there is one it is that of the last publication
+-- the last note is that of the last publication
 some_shown : (history : List Prefix) (note : Bytes) → Some note ≡ note_if (last_of history) → (p : Prefix) × (last_of history ≡ Some p) × (p.note ≡ note)
 some_shown [] note is = absurd (cc)
 some_shown (p ∷ []) note is = (p, refl, sym (some_same note p.note is))
@@ -66,7 +66,7 @@ tags_more tag history q have = record {
   met = have.met;
 }
 
--- one that is of a committed log, and has no fewer entries than any before
+-- one more publication, of a committed log with no fewer entries than any before
 push_ordered : (setting : Setting) (store : Store) (history : List Prefix) (q : Prefix) → ((p : Prefix) → Contains history p → IsWhole setting store p)
     → IsWhole setting store q → NeverShrinks history → ((p : Prefix) → Contains history p → length p.entries ≤ length q.entries)
     → NeverShrinks (history ++ q ∷ []) × TopsAll (history ++ q ∷ [])
@@ -91,7 +91,7 @@ push_ordered setting store history q each own grows less =
 
 -- ---- a checkpoint in the place of another
 
--- a note tells one size
+-- a note states one size
 one_size : (note : Bytes) (m n : ℕ) → TellsSize note m → TellsSize note n → m ≡ n
 one_size note m n is was =
     let small = is.bounded in
@@ -124,7 +124,7 @@ replaced setting store history q wanted note each own may there met grows tops =
     last : (p : Prefix) × (last_of history ≡ Some p) × (p.note ≡ note)
     last = some_shown history note there
 
-    -- the last has as many entries as the one that was meant, which has one note with it
+    -- the last has as many entries as the note that was meant states, since both are one note
     less : wanted ≡ note → (p : Prefix) → Contains history p → length p.entries ≤ length q.entries
     less same p has =
         let of_last = (each last.0 (last_has history last.0 last.1)).note in
@@ -163,7 +163,7 @@ ordered_on setting w wanted q true sound may met (inr tags) = inr (tags_more set
 ordered_on setting w wanted q true sound may met (inl ordered) =
     shown_on setting w.store w.shown q wanted (w.store.held resource.Checkpoint) sound.shown may.0 may.1 sound.last met ordered
 
--- what is shown doesn't depend on the store's other part
+-- what is shown doesn't depend on the rest of the world
 only_shown : (test : Bool) (a b c : World) → a.shown ≡ b.shown → (if test then a else c).shown ≡ (if test then b else c).shown
 only_shown true a b c same = same
 only_shown false a b c same = refl

@@ -18,12 +18,12 @@ use Rattle.tl_bucket.specs.Operators.{Setting, World, beginning, IsNeeded, IsWho
 use Rattle.tl_bucket.proofs.Commits.{some_same, same_bytes}
 use Rattle.tl_bucket.proofs.Grown.{Grows, grows_not, grows_on, needed_stays, whole_stays, may_send_later, commits_after}
 
--- it is of a checkpoint that was sent
+-- the publication is of a checkpoint that was sent
 abbrev pub WasSent : World → Prefix → Type 0
 WasSent w q = (wanted : Option Bytes) × Contains w.sent (put_checkpoint wanted q)
 
--- each commit had the ones before it, each tile and bundle is one that a committed log needs, all that was sent may be
--- sent, all that was shown is there whole, and the checkpoint is that of the last
+-- each commit had the ones before it, each tile and bundle is one that a committed log needs, all that was sent may
+-- be sent, all that was shown is there whole, and the checkpoint is that of the last publication
 pub record IsSound (setting : Setting) (w : World) : Type 0 where
   pub commits : (n : ℕ) (batch : List Bytes) → w.store.commits n ≡ Some batch → MaySend setting w (put_commit n batch)
   pub held : (r : Resource) (bytes : Bytes) → r ≢ resource.Checkpoint → w.store.held r ≡ Some bytes → IsNeeded setting w.store r bytes
@@ -73,9 +73,9 @@ on_sent setting w request sound may = (
       | inr own ↦ subst (MaySend setting w) own may
     ]
 
--- ---- the store does one
+-- ---- the store does a request
 
--- where nothing was under the number it is the new batch, and else what it was
+-- under the number is the new batch if nothing was there, and else what was there
 new_or_old : {X : Type 0} (new x : X) (old : Option X) → put_new new old ≡ Some x → (new ≡ x) ⊎ (old ≡ Some x)
 new_or_old new x None is = inl (some_same new x is)
 new_or_old new x (Some old) is = inr is
@@ -166,7 +166,7 @@ on_resource setting w r bytes sound may = (
         (λ same is. subst (λ (x : Resource). IsNeeded setting w.store x own) (sym same) (subst (IsNeeded setting w.store r) (some_same bytes own is) may))
         (sound.held s own other)
 
--- the note of the last of them, once one was added
+-- the note of the last publication, after one was added
 last_note : (history : List Prefix) (q : Prefix) → note_if (last_of (history ++ q ∷ [])) ≡ Some q.note
 last_note [] q = refl
 last_note (p ∷ []) q = refl

@@ -1,5 +1,5 @@
--- A bucket, the store of objects that the operators of one log share, and what a put makes of it (C2SP tlog-tiles; for
--- the conditions of a put RFC 9110, "If-Match" and "If-None-Match").
+-- A bucket, which is the store of objects that the operators of one log share, and what a put does to it (C2SP
+-- tlog-tiles; for the conditions of a put RFC 9110, "If-Match" and "If-None-Match").
 use Rattle.std.specs.Prelude.{◌≡◌, ℕ, zero, suc, Bool, true, false, List, [], ◌++◌, Option, Some, None, ◌==◌, bytes_eq, if◌then◌else◌}
 use Rattle.tl_hash.specs.Bytes.{Bytes}
 use Rattle.tl_tile.specs.declared.resource.Resource.{Resource}
@@ -7,7 +7,8 @@ use Rattle.tl_log.specs.Histories.{Prefix}
 use Rattle.tl_log.specs.Resources.{same_resource}
 use Rattle.tl_archive.specs.Shelves.{Held}
 
--- what is there: under `commit/N`, N from 1 on, the entries that the commit appends; and the log's resources
+-- the objects that are there: under `commit/N`, for N from 1, the entries that the commit appends; and the log's
+-- resources
 pub record Store : Type 0 where
   pub commits : ℕ → Option (List Bytes)
   pub held : Held
@@ -26,15 +27,15 @@ Committed store (suc n) entries = (front batch : List Bytes) × Committed store 
 abbrev pub IsCommitted : Store → List Bytes → Type 0
 IsCommitted store entries = (n : ℕ) × Committed store n entries
 
--- a put: of the entries that a commit appends, where nothing is under its number (If-None-Match: *); of a tile or
--- bundle, whatever is there; or of a publication's checkpoint, where none is there (If-None-Match: *) or, with a note,
--- where one is that has the entity tag of that note (If-Match)
+-- a put of the entries that a commit appends, if nothing is under its number (If-None-Match: *); of a tile or bundle,
+-- whatever is there; or of a publication's checkpoint, if none is there (If-None-Match: *) or, with a note, if the
+-- one that is there has the entity tag of that note (If-Match)
 pub data Request : Type 0 where
   put_commit : ℕ → List Bytes → Request
   put_resource : Resource → Bytes → Request
   put_checkpoint : Option Bytes → Prefix → Request
 
--- what is there after a put that is done where nothing is there
+-- the object that is there after a put that is done only if nothing is there
 abbrev pub put_new : {X : Type 0} → X → Option X → Option X
 put_new new None = Some new
 put_new new (Some old) = Some old
@@ -49,7 +50,7 @@ abbrev pub with_resource : Resource → Bytes → Store → Store
 with_resource r bytes store =
     record store { held = λ s. if same_resource s r then Some bytes else store.held s }
 
--- whether what is to be there, for a checkpoint to be put, is what is there, as far as entity tags tell
+-- whether the condition of a checkpoint's put holds, as far as entity tags distinguish notes
 abbrev pub is_met : (Bytes → Bytes) → Option Bytes → Option Bytes → Bool
 is_met tag None None = true
 is_met tag (Some wanted) (Some note) = bytes_eq (tag wanted) (tag note)

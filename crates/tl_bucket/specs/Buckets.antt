@@ -13,13 +13,13 @@ use Rattle.tl_bucket.specs.Answered.{IsBare, WasThereWith}
 use Rattle.tl_bucket.specs.Claims.{Adds, Claims, CommitsEntries}
 use Rattle.tl_bucket.specs.Shelved.{WereThere, content_at}
 
--- a checkpoint that is there: its note, and the entity tag that was told with it
+-- a checkpoint that is there: its note, and the entity tag that came with it
 pub record Shown : Type 0 where
   pub note : Bytes
   pub etag : Bytes
 
--- the objects of a log: the bucket in which they are; the tiles and bundles that wait, and the note that does; what is
--- claimed for them; and the checkpoint that is there, if one is
+-- the objects of a log: their bucket; the tiles and bundles that wait, and the note that does; the claims for them;
+-- and the checkpoint that is there, if any
 pub record Objects : Type 0 where
   pub at : Place
   pub waiting : List Item
@@ -31,8 +31,8 @@ pub record Objects : Type 0 where
 abbrev pub no_objects : Place → Claims → Option Shown → Objects
 no_objects at claims shown = record { at = at; waiting = []; note = None; claims = claims; shown = shown }
 
--- a bucket as a shelf: its objects; whether the checkpoint is read anew each time; the address by which it was opened;
--- what came of its calls so far, how many of them failed, and how many entries it marked as published, last
+-- a bucket as a shelf: its objects; whether the checkpoint is read anew each time; the address by which it was
+-- opened; the outcomes of its calls so far, how many of them failed, and how many entries it marked as published last
 pub record Bucketed : Type 0 where
   pub objects : Objects
   pub reads_anew : Bool
@@ -41,28 +41,29 @@ pub record Bucketed : Type 0 where
   pub failures : ℕ
   pub published : Option ℕ
 
--- what a bucket keeps, by what it had at first and its calls
+-- what a bucket keeps, given what it had at first and its calls
 abbrev pub bucket_kept : Held → Reached → Bucketed → Kept
 bucket_kept held reached b = after_calls reached 0 b.events (at_first held)
 
--- the same after each call so far
+-- what a bucket keeps after each call so far
 abbrev pub bucket_trace : Held → Reached → Bucketed → List Kept
 bucket_trace held reached b = after_each reached 0 b.events (at_first held)
 
--- when a checkpoint is to be put: where the one that is there has the entity tag of this one, or where none is there
+-- the condition under which a checkpoint is put: that the one that is there has the entity tag of this one, or that
+-- none is there
 abbrev pub IsReplacing : Option Shown → Condition → Type 0
 IsReplacing None c = c ≡ condition.Absent
 IsReplacing (Some shown) c = (value : _) × (c ≡ condition.Matches value) × (value.now ≡ shown.etag)
 
--- a checkpoint was put, where one is to be, and this is the one that is there then
+-- a checkpoint was put if one was to be, and this is the one that is there then
 abbrev pub NoteWasThere : Place → Option Shown → Option Bytes → Option Shown → Type 0
 NoteWasThere p before None after = after ≡ before
 NoteWasThere p before (Some note) after =
     (c : Condition) × IsReplacing before c × ((etag : Bytes) × WasThereWith p (content_at (resource.Checkpoint, note)) c (Some etag)
     × ((tag : Bytes) × IsBare etag tag × (after ≡ Some (record { note = note; etag = tag }))))
 
--- all that waited was put: the entries that the bundles add are committed, if there are any, the tiles and bundles were
--- there, and the checkpoint was put in the place of the one that was known. Nothing waits any more
+-- all that waited was put: the entries that the bundles add are committed, if there are any, the tiles and bundles
+-- were there, and the checkpoint was put in the place of the one that was known. Nothing waits any more
 pub record SettlesObjects (before after : Objects) : Type 0 where
   pub committed : CommitsEntries before.at before.claims after.claims
   pub tiles : WereThere before.at before.waiting
@@ -71,7 +72,7 @@ pub record SettlesObjects (before after : Objects) : Type 0 where
   pub waiting : after.waiting ≡ []
   pub note : after.note ≡ None
 
--- bytes of a resource wait beside what did, and what a bundle adds is claimed
+-- the bytes of a resource now wait too, and the entries that a bundle adds are claimed
 abbrev pub KeepsBytes : Resource → Bytes → Objects → Objects → Type 0
 KeepsBytes resource.Checkpoint bytes before after = after ≡ record before { note = Some bytes }
 KeepsBytes (resource.Tile t) bytes before after =

@@ -4,17 +4,18 @@ use Rattle.tl_hash.specs.Bytes.{Bytes}
 use Rattle.tl_text.specs.Text.{line, number_text, HasNoControl, IsSize}
 use Rattle.tl_tile.specs.Bundle.{bundle_text, AreShortEntries}
 
--- a commit: how many entries come before it, a text that tells whose it is, and the entries that it appends
+-- a commit: how many entries come before it, a token that identifies the run that made it, and the entries that it
+-- appends
 pub record Commit : Type 0 where
   pub start : ℕ
   pub token : Bytes
   pub entries : List Bytes
 
--- what stands before its entries
+-- the bytes before the entries of a commit
 abbrev pub commit_front : ℕ → Bytes → Bytes
 commit_front start token = line (codes "tlog commit") ++ line (number_text start) ++ line token ++ line []
 
--- its bytes
+-- the bytes of a commit
 abbrev pub commit_text : Commit → Bytes
 commit_text c = commit_front c.start c.token ++ bundle_text c.entries
 
@@ -25,7 +26,7 @@ pub record IsCommit (bytes : Bytes) (c : Commit) : Type 0 where
   pub short : AreShortEntries c.entries
   pub spelled : bytes ≡ commit_text c
 
--- the bytes are those of so many entries, each with its length in front, and these
+-- the bytes are those of `count` entries, each with its length before it, and then these
 pub record IsBehind (bytes : Bytes) (count : ℕ) (rest : Bytes) : Type 0 where
   pub entries : List Bytes
   pub short : AreShortEntries entries

@@ -1,4 +1,4 @@
--- What a fault of a bucket says.
+-- The message of a bucket's fault.
 use Rattle.std.specs.Prelude.{◌++◌, codes}
 use Rattle.tl_hash.specs.Bytes.{Bytes}
 use Rattle.tl_text.specs.Text.{number_text}

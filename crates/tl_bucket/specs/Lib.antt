@@ -1,4 +1,4 @@
--- The definitions of a log in a bucket.
+-- A log in a bucket.
 pub mod Bucket
 pub mod Operators
 pub mod Histories

@@ -1,4 +1,4 @@
--- How far the log in a bucket goes, as an operator finds out at its start.
+-- How far the log in a bucket goes, as an operator finds out when it starts.
 use Rattle.std.specs.Prelude.{◌≡◌, ◌⊎◌, ℕ, ◌+◌, [], Bool, not, ◌||◌, nat_lt, Option, Some, None, is_some, length}
 use Rattle.tl_hash.specs.Bytes.{Bytes}
 use Rattle.tl_s3.specs.Objects.{Content, Place}
@@ -12,7 +12,7 @@ use Rattle.tl_bucket.specs.Claims.{Claims, no_claims}
 use Rattle.tl_bucket.specs.Commits.{Commit, IsCommit}
 use Rattle.tl_bucket.specs.Shelved.{commit_path}
 
--- the commit with this number was there, or wasn't
+-- the commit with this number was there; and the commit with this number wasn't
 abbrev pub HasCommit : Place → ℕ → Type 0
 HasCommit p n = (bytes : Bytes) × WasRead p (commit_path n) bytes
 
@@ -24,20 +24,21 @@ pub record IsLastFound (p : Place) (n : ℕ) : Type 0 where
   pub there : (n ≡ 0) ⊎ HasCommit p n
   pub none : LacksCommit p (n + 1)
 
--- the commit with this number was there, and is this one
+-- the commit with this number was there, and it was this one
 abbrev pub WasReadAs : Place → ℕ → Commit → Type 0
 WasReadAs p n c = (bytes : Bytes) × WasRead p (commit_path n) bytes × IsCommit bytes c
 
--- the store refused a put where something is (If-None-Match: *), and one where something else is (If-Match)
+-- the store refused a put on condition that nothing is there (If-None-Match: *), and one on condition that something
+-- else is there (If-Match)
 pub record RefusesPuts (p : Place) : Type 0 where
   pub where_one_is : (content : Content) × WasPut p content condition.Absent Refused
   pub where_another_is : (content : Content) × (etag : _) × WasPut p content (condition.Matches etag) Refused
 
--- all commits up to the one with this number append so many entries, as the last of them says
+-- all commits up to the one with this number append `size` entries, as the last of them says
 abbrev pub EndsAt : Place → ℕ → ℕ → Type 0
 EndsAt p n size = ((n ≡ 0) × (size ≡ 0)) ⊎ ((c : Commit) × WasReadAs p n c × (size ≡ c.start + length c.entries))
 
--- the next commit, with this token, comes behind the last one that was found
+-- the next commit, with this token, comes after the last one that was found
 pub record IsAtEnd (p : Place) (token : Bytes) (claims : Claims) : Type 0 where
   pub last : ℕ
   pub size : ℕ
@@ -45,7 +46,7 @@ pub record IsAtEnd (p : Place) (token : Bytes) (claims : Claims) : Type 0 where
   pub ends : EndsAt p last size
   pub next : claims ≡ no_claims (last + 1) size token None
 
--- one answer gave the checkpoint, its note and its entity tag, which is as it is given to If-Match; or there was none
+-- one answer gave the checkpoint's note and its entity tag, which is as If-Match takes it; or there was none
 abbrev pub KnowsShown : Place → Option Shown → Type 0
 KnowsShown p None = WasMissing p (place_of [] resource.Checkpoint)
 KnowsShown p (Some shown) =
@@ -55,6 +56,6 @@ KnowsShown p (Some shown) =
 abbrev pub has_log : Claims → Option Shown → Bool
 has_log claims shown = nat_lt 1 claims.number || is_some shown
 
--- a log begins there if it is asked to, so that none is there; else one is, which is gone on from
+-- a log is there if and only if a new one isn't to begin
 abbrev pub BeginsThere : Bool → Claims → Option Shown → Type 0
 BeginsThere new claims shown = has_log claims shown ≡ not new

@@ -16,14 +16,14 @@ media_of (resource.Tile t) = codes "application/octet-stream"
 media_of (resource.Entries index width) = codes "application/octet-stream"
 media_of resource.Checkpoint = codes "text/plain; charset=utf-8"
 
--- how long others may keep what doesn't change, and what does (RFC 9111, section 5.2; RFC 8246)
+-- the caching of objects that don't change, and of those that do (RFC 9111, section 5.2; RFC 8246)
 abbrev pub lasting : Bytes
 lasting = codes "public, max-age=31536000, immutable"
 
 abbrev pub fleeting : Bytes
 fleeting = codes "no-store"
 
--- how long others may keep a resource
+-- the caching of a resource
 abbrev pub caching_of : Resource → Bytes
 caching_of (resource.Tile t) = lasting
 caching_of (resource.Entries index width) = lasting

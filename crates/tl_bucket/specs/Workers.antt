@@ -4,7 +4,7 @@ use Rattle.tl_archive.specs.Shelves.{Item}
 use Rattle.tl_s3.specs.Objects.{Place}
 use Rattle.tl_bucket.specs.declared.fault.BucketFault.{BucketFault}
 
--- what a worker has to put, and where; and what it tells of that
+-- what a worker has to put, into which bucket, and the outcome
 pub record Work : Type 0 where
   pub at : Place
   pub items : List Item

@@ -1,4 +1,4 @@
-//! Requests that are sent again until it is known what came of them.
+//! Requests that are sent again until their outcome is known.
 
 ghost use Rattle.std.specs.Prelude.{◌≡◌, IfOk, IfSome};
 ghost use Rattle.tl_bucket.specs.Answered.{WasReadWith};
@@ -19,7 +19,7 @@ use tl_s3::{Condition, GetAnswer, GetReply, Object, PutAnswer, PutReply};
 // For how many seconds a request that fails is sent again.
 const PATIENCE: u64 = 60;
 
-// How many milliseconds are waited before it is, at first and at most.
+// How many milliseconds pass before it is, at first and at most.
 const FIRST_PAUSE: u64 = 50;
 
 const LONGEST_PAUSE: u64 = 2000;
@@ -27,12 +27,12 @@ const LONGEST_PAUSE: u64 = 2000;
 /// The most bytes of an object that is read: a commit of 65,536 of the longest entries has fewer.
 pub(crate) const MOST_BYTES: usize = 1 << 33;
 
-/// What came of putting an object.
+/// The outcome of putting an object.
 #[derive(Drop)]
 pub(crate) enum PutOutcome {
     /// It is there, with this entity tag.
     Done(Option<Vec<u8>>),
-    /// The condition didn't hold, and another one is there, or none.
+    /// The condition didn't hold: another object is there, or none.
     Refused,
 }
 
@@ -53,7 +53,7 @@ struct Patience {
 }
 
 impl Patience {
-    // All of it.
+    // Begins to wait now.
     fn new<H: Clock>(rt: &H) -> Result<Patience, BucketFault> {
         Ok(Patience {
             start: now(rt)?,
@@ -61,7 +61,7 @@ impl Patience {
         })
     }
 
-    // Waits, if the fault may pass and there is time left. Else it is told.
+    // Waits if the fault may pass and there is time left. Else returns the fault.
     fn wait<H: Clock>(&mut self, rt: &H, fault: BucketFault) -> Result<(), BucketFault> {
         let Ok(elapsed) = self.start.elapsed(rt) else {
             return Err(fault);
@@ -75,7 +75,7 @@ impl Patience {
     }
 }
 
-// Why a store refused a request with this status and these words.
+// Returns why a store refused a request with this status and this body.
 fn refusal(status: u16, words: &[u8]) -> BucketFault {
     if memmem::find(words, b"<Code>RequestTimeTooSkewed</Code>").is_some() {
         return BucketFault::ClockIsOff;
@@ -89,7 +89,7 @@ fn refusal(status: u16, words: &[u8]) -> BucketFault {
     BucketFault::Device(DeviceFault::Status(status))
 }
 
-// What an answer to a put comes to by itself.
+// Returns the outcome that the answer to a put shows by itself.
 fn outcome_of(reply: PutReply<Global>) -> Result<PutOutcome, BucketFault>
     ensures { IfOk result (Tells reply.answer (value_bytes reply.etag)) }
 {
@@ -101,7 +101,7 @@ fn outcome_of(reply: PutReply<Global>) -> Result<PutOutcome, BucketFault>
     }
 }
 
-// Whether what is there now has to be read, to know what came of a put: where it has a condition, and the answer is
+// Reports whether what is there has to be read to know the outcome of a put: if it has a condition, and the answer is
 // neither that it is done nor why it never will be.
 fn is_unclear(condition: &Condition<'_>, outcome: &Result<PutOutcome, BucketFault>) -> bool {
     match (condition, outcome) {
@@ -113,7 +113,7 @@ fn is_unclear(condition: &Condition<'_>, outcome: &Result<PutOutcome, BucketFaul
 }
 
 impl Connection {
-    // The answer to one put, by itself.
+    // Puts an object once, and returns the outcome that the answer shows by itself.
     fn put_answered<H: Net<Stream = TcpStream> + Clock>(
         &mut self,
         client: &Client<'_, H>,
@@ -128,7 +128,7 @@ impl Connection {
         }
     }
 
-    // The entity tag of the object that is there, where it has this very content.
+    // Returns the entity tag of the object that is there, if it has this very content.
     fn find_same<H: Net<Stream = TcpStream> + Clock>(
         &mut self,
         client: &Client<'_, H>,
@@ -143,7 +143,7 @@ impl Connection {
         }
     }
 
-    // Puts an object once, and reads it where that doesn't tell what came of it.
+    // Puts an object once, and reads it if the answer doesn't show the outcome.
     fn try_put<H: Net<Stream = TcpStream> + Clock>(
         &mut self,
         client: &Client<'_, H>,
@@ -162,8 +162,8 @@ impl Connection {
         }
     }
 
-    /// Puts an object, and doesn't end before it is known what came of it, or a minute is over. After a fault the
-    /// object may be there.
+    /// Puts an object, again and again until the outcome is known or a minute is over. After a fault the object may
+    /// be there.
     pub(crate) fn put<H: Net<Stream = TcpStream> + Clock>(
         &mut self,
         client: &Client<'_, H>,
@@ -202,8 +202,8 @@ impl Connection {
         }
     }
 
-    /// The object with this path, of at most so many bytes, and `None` where there is none. It doesn't end before that
-    /// is known, or a minute is over.
+    /// Returns the object with this path, of at most `limit` bytes, or `None` if there is none. It asks again and
+    /// again until that is known or a minute is over.
     pub(crate) fn find<H: Net<Stream = TcpStream> + Clock>(
         &mut self,
         client: &Client<'_, H>,

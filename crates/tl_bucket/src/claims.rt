@@ -1,4 +1,4 @@
-//! What an operator claims by commits, before anybody sees it.
+//! The commits of an operator: which entries it is to commit next.
 
 ghost use Rattle.std.specs.Prelude.{◌≡◌, ℕ, ◌+◌, ◌++◌, [], IfOk, OnErr, OnOk, None, string_bytes, vec_items};
 ghost use Rattle.tl_bucket.specs.Claims.{Adds, CommitsEntries, no_claims, no_claims_of_other, token_of};
@@ -21,7 +21,7 @@ use std::time::Clock;
 use tl_device::DeviceFault;
 use tl_s3::{Condition, Object};
 
-// The path of the commit with this number.
+// Returns the path of the commit with this number.
 fn commit_path(alloc: Global, number: u64) -> Result<String, AllocError>
     ensures { IfOk result (λ path. string_bytes path ≡ commit_path number) }
 {
@@ -30,7 +30,7 @@ fn commit_path(alloc: Global, number: u64) -> Result<String, AllocError>
     Ok(path)
 }
 
-/// The commit with this number, if there is one.
+/// Returns the commit with this number, if there is one.
 pub(crate) fn find_commit<H: Net<Stream = TcpStream> + Clock>(
     client: &Client<'_, H>,
     connection: &mut Connection,
@@ -42,7 +42,7 @@ pub(crate) fn find_commit<H: Net<Stream = TcpStream> + Clock>(
     connection.find(client, path.as_str(), MOST_BYTES)
 }
 
-// The object of a commit, with the path under which it is.
+// Returns the object of a commit, with its path.
 fn object_of<'o>(path: &'o str, body: &'o [u8]) -> Object<'o>
     ensures { (number : ℕ) → path.now ≡ commit_path number
         → content_of result ≡ commit_at number body.now }
@@ -55,7 +55,7 @@ fn object_of<'o>(path: &'o str, body: &'o [u8]) -> Object<'o>
     }
 }
 
-// Puts a commit with these bytes under this number, where nothing may be.
+// Puts a commit with these bytes under this number, where nothing may be yet.
 fn put_commit<H: Net<Stream = TcpStream> + Clock>(
     client: &Client<'_, H>,
     connection: &mut Connection,
@@ -75,12 +75,12 @@ pub(crate) struct Claims {
     // The number of the next commit, and how many entries come before it.
     number: u64,
     start: u64,
-    // The bytes of its entries, each with its length in front, and how many come before those behind it.
+    // The bytes of its entries, each with its length before it, and the log's size with them.
     entries: Vec<u8>,
     end: u64,
-    // What tells whose commits they are.
+    // The token of this operator's commits.
     token: Vec<u8>,
-    // The same of the next one, where another operator made it.
+    // The token of the next commit, if another operator made it.
     other: Option<Vec<u8>>,
 }
 
@@ -101,8 +101,8 @@ impl Model for Claims {
 }
 
 impl Claims {
-    /// Nothing is to be appended. The next commit has this number, so many entries come before it, and the token tells
-    /// whose it is.
+    /// Creates claims without entries: the next commit has this number, comes after `start` entries, and has this
+    /// token.
     pub(crate) fn new(alloc: Global, number: u64, start: u64, token: Vec<u8>) -> Claims
         ensures { result ≡ no_claims number start token.items None }
     {
@@ -116,27 +116,27 @@ impl Claims {
         }
     }
 
-    /// What tells whose commits they are.
+    /// Returns the token of this operator's commits.
     pub(crate) fn token(&self) -> &[u8] {
         self.token.as_slice()
     }
 
-    /// The number of the next commit.
+    /// Returns the number of the next commit.
     pub(crate) fn number(&self) -> u64
         ensures { result ≡ self.now.number }
     {
         self.number
     }
 
-    /// How many entries come before the next commit.
+    /// Returns how many entries come before the next commit.
     pub(crate) fn start(&self) -> u64
         ensures { result ≡ self.now.start }
     {
         self.start
     }
 
-    /// The next commit has this number, and so many entries come before it. It is there, from another operator, with
-    /// this token.
+    /// Goes to the commit with this number, which comes after `start` entries. It is there already, from another
+    /// operator, with this token.
     pub(crate) fn finish(&mut self, number: u64, start: u64, token: Vec<u8>)
         ensures { self.new ≡ no_claims_of_other number start self.old.token token.items }
     {
@@ -147,7 +147,7 @@ impl Claims {
         self.other = Some(token);
     }
 
-    /// Adds the entries that a bundle with this index and width has behind all that is committed.
+    /// Adds the entries of a bundle with this index and width that come after all committed ones.
     pub(crate) fn add(&mut self, index: u64, width: u32, bundle: &[u8]) -> Result<(), BucketFault>
         ensures added { OnOk result (Adds index width bundle.now self.old self.new) }
         ensures unchanged { OnErr result (self.new ≡ self.old) }
@@ -166,7 +166,7 @@ impl Claims {
         Ok(())
     }
 
-    // What tells whose the next commit is.
+    // Returns the token of the next commit.
     fn next_token(&self) -> &[u8]
         ensures { result.now ≡ token_of self.now.other self.now.token }
     {
@@ -176,7 +176,7 @@ impl Claims {
         }
     }
 
-    // The bytes of the commit that appends the entries.
+    // Returns the bytes of the commit that appends the entries.
     fn commit_bytes(&self, alloc: Global) -> Result<Vec<u8>, AllocError>
         ensures { IfOk result (λ bytes. bytes.items
             ≡ commit_front self.now.start (token_of self.now.other self.now.token) ++ self.now.entries) }
@@ -186,7 +186,7 @@ impl Claims {
         Ok(bytes)
     }
 
-    // The entries are committed: the next commit has this number, and comes behind them.
+    // Goes on once the entries are committed: the next commit has this number, and comes after them.
     fn go_on(&mut self, number: u64)
         ensures { self.new ≡ no_claims number self.old.end self.old.token None }
     {
@@ -196,8 +196,8 @@ impl Claims {
         self.other = None;
     }
 
-    /// Commits the entries, if there are any: under the next number, where nothing may be. `Outrun`: another operator's
-    /// commit is there.
+    /// Commits the entries, if there are any, under the next number, where nothing may be yet. `Outrun`: another
+    /// operator's commit is there.
     pub(crate) fn claim<H: Net<Stream = TcpStream> + Clock>(
         &mut self,
         client: &Client<'_, H>,

@@ -16,12 +16,12 @@ use tl_s3::{
 };
 use tl_source::{Url, connect};
 
-// The most time that one request takes.
+// Returns the most time that one request takes.
 fn request_time() -> Duration {
     Duration::from_secs(10)
 }
 
-/// A bucket, and what connects to its store: requests are signed by this credential. Contracts see the bucket.
+/// A bucket, and how its store is reached: what connects, and the credential that signs. Contracts see the bucket.
 #[derive(Drop)]
 pub struct Client<'b, H> {
     pub(crate) rt: &'b H,
@@ -41,8 +41,8 @@ impl<'b, H> Model for Client<'b, H> {
 impl<'b, H> Client<'b, H> {
     ghost use Rattle.tl_s3.specs.CanonicalRequests.{credential_of};
 
-    /// The bucket at this address: what follows the host and the port stands before each object's path. Nothing is
-    /// asked for yet.
+    /// Creates a client of the bucket at this address. What follows the host and the port is the prefix of each
+    /// object's path. Nothing is requested yet.
     pub fn new(rt: &'b H, alloc: Global, url: Url<'b>, credential: Credential<'b>) -> Client<'b, H>
         ensures host { result.host ≡ url.entry.authority.now }
         ensures prefix { result.prefix ≡ url.entry.prefix.now }
@@ -61,7 +61,7 @@ impl<'b, H> Client<'b, H> {
         }
     }
 
-    /// Another one of the same bucket.
+    /// Returns another client of the same bucket.
     pub(crate) fn again(&self) -> Client<'b, H>
         ensures { result ≡ self.now }
     {
@@ -74,7 +74,7 @@ impl<'b, H> Client<'b, H> {
     }
 }
 
-// The second that the machine's clock has.
+// Returns the time of the machine's clock, to the second.
 fn moment_now<H: Clock>(rt: &H) -> Result<Moment, DeviceFault> {
     let Ok(since) = SystemTime::now(rt)?.duration_since(UNIX_EPOCH) else {
         return Err(DeviceFault::System);
@@ -85,7 +85,7 @@ fn moment_now<H: Clock>(rt: &H) -> Result<Moment, DeviceFault> {
     }
 }
 
-// Whether the time of a request that began then is over.
+// Reports whether a request that began at `start` has used up its time.
 fn is_late<H: Clock>(rt: &H, start: &Instant) -> bool {
     match start.elapsed(rt) {
         Ok(elapsed) => elapsed >= request_time(),
@@ -94,7 +94,7 @@ fn is_late<H: Clock>(rt: &H, start: &Instant) -> bool {
 }
 
 impl<H: Clock> Client<'_, H> {
-    // The answer to a put over this connection.
+    // Puts an object over this connection, and returns the answer.
     fn put_over(
         &self,
         stream: &TcpStream,
@@ -123,7 +123,7 @@ impl<H: Clock> Client<'_, H> {
         }
     }
 
-    // The answer to a get over this connection.
+    // Gets an object over this connection, and returns the answer.
     fn get_over(
         &self,
         stream: &TcpStream,
@@ -152,19 +152,19 @@ impl<H: Clock> Client<'_, H> {
     }
 }
 
-/// A connection that is kept between requests, where the last answer left it open.
+/// A connection that is kept between requests, if the last answer left it open.
 #[derive(Drop)]
 pub(crate) struct Connection {
     stream: Option<TcpStream>,
 }
 
 impl Connection {
-    /// None yet.
+    /// Creates a connection that isn't open yet.
     pub(crate) fn new() -> Connection {
         Connection { stream: None }
     }
 
-    // The connection that was kept, or a new one.
+    // Returns the connection that was kept, or a new one.
     fn take<H: Net<Stream = TcpStream> + Clock>(
         &mut self,
         client: &Client<'_, H>,
@@ -178,7 +178,7 @@ impl Connection {
         Ok(stream)
     }
 
-    /// The answer to one put of an object.
+    /// Puts an object once, and returns the answer.
     pub(crate) fn put_once<H: Net<Stream = TcpStream> + Clock>(
         &mut self,
         client: &Client<'_, H>,
@@ -197,7 +197,7 @@ impl Connection {
         Ok(reply)
     }
 
-    /// The answer to one get of an object.
+    /// Gets an object once, and returns the answer.
     pub(crate) fn get_once<H: Net<Stream = TcpStream> + Clock>(
         &mut self,
         client: &Client<'_, H>,
@@ -217,7 +217,7 @@ impl Connection {
     }
 }
 
-/// The moment that it is, by a clock that never goes back.
+/// Returns the time of a clock that never goes back.
 pub(crate) fn now<H: Clock>(rt: &H) -> Result<Instant, DeviceFault> {
     Ok(Instant::now(rt)?)
 }

@@ -19,18 +19,18 @@ use tl_text::{parse_size, push_line};
 pub(crate) struct Commit<A: Allocator> {
     /// How many entries come before it.
     pub(crate) start: u64,
-    /// What tells whose it is.
+    /// The token of the run that made it.
     pub(crate) token: Vec<u8, A>,
     /// The entries that it appends.
     pub(crate) entries: Vec<Vec<u8, A>, A>,
 }
 
-/// Why a commit wasn't read.
+/// Why bytes weren't read as a commit.
 #[derive(Clone, Copy)]
 pub(crate) enum CommitFault {
-    /// The bytes are no commit's.
+    /// The bytes aren't those of a commit.
     Malformed,
-    /// Memory was refused.
+    /// Allocation failed.
     OutOfMemory,
 }
 
@@ -42,8 +42,8 @@ impl From<AllocError> for CommitFault {
     }
 }
 
-/// What stands before the entries of a commit behind so many others, with this token. A token that isn't one line makes
-/// it no commit's. It fails only where a growth was refused.
+/// Returns the bytes before the entries of a commit that comes after `start` entries and has this token. With a token
+/// that isn't one line they begin no commit. It fails only when allocation fails.
 pub(crate) fn commit_front<A: Allocator>(
     alloc: A,
     start: u64,
@@ -60,15 +60,15 @@ pub(crate) fn commit_front<A: Allocator>(
     Ok(front)
 }
 
-// The place of the first control character.
+// Returns the index of the first control character.
 fn first_control(bytes: &[u8]) -> Option<usize>
     ensures { result ≡ position (λ byte. nat_lt byte 32) bytes.now }
 {
     bytes.iter().position(|byte| *byte < 0x20)
 }
 
-/// The first line of bytes, without its newline, and what follows it. A line ends with a newline and has no other byte
-/// below 0x20.
+/// Returns the first line, without its newline, and the bytes after it. A line ends with a newline and has no other
+/// byte below 0x20.
 pub(crate) fn cut_line(bytes: &[u8]) -> Option<(&[u8], &[u8])>
     ensures { MatchOption result (IsNoLine bytes.now)
         (λ r. HasNoControl r.0.now × (bytes.now ≡ line r.0.now ++ r.1.now)) }
@@ -82,7 +82,7 @@ pub(crate) fn cut_line(bytes: &[u8]) -> Option<(&[u8], &[u8])>
     Some((&bytes[..end], &bytes[end + 1..]))
 }
 
-/// The number below 2^63 that bytes are, in decimal without sign or leading zeros.
+/// Returns the number below 2^63 that bytes write in decimal, without sign or leading zeros.
 pub(crate) fn read_size(bytes: &[u8]) -> Option<u64>
     ensures { MatchOption result (IsNoSize bytes.now)
         (λ size. IsSize size × (bytes.now ≡ number_text size)) }
@@ -93,7 +93,7 @@ pub(crate) fn read_size(bytes: &[u8]) -> Option<u64>
     }
 }
 
-// How many entries come before a commit, its token, and what follows its front.
+// Returns how many entries come before a commit, its token, and the bytes of its entries.
 fn split_front(bytes: &[u8]) -> Option<(u64, &[u8], &[u8])>
     ensures { MatchOption result
         ((start : ℕ) (token rest : Bytes) → IsSize start → HasNoControl token
@@ -119,7 +119,7 @@ fn split_front(bytes: &[u8]) -> Option<(u64, &[u8], &[u8])>
     Some((start, token, rest))
 }
 
-// The first entry, and the bytes after it.
+// Returns the first entry, and the bytes after it.
 fn first_entry(bytes: &[u8]) -> Option<(&[u8], &[u8])>
     ensures { MatchOption result
         ((entry rest : Bytes) → IsShortEntry entry → bytes.now ≢ bundled_entry entry ++ rest)
@@ -135,7 +135,7 @@ fn first_entry(bytes: &[u8]) -> Option<(&[u8], &[u8])>
     Some(rest.split_at(len))
 }
 
-// Whether bytes are those of entries, each with its length in front. It takes no memory.
+// Reports whether bytes are those of entries, each with its length before it. It allocates nothing.
 fn are_entries(bytes: &[u8]) -> bool
     ensures { MatchBool result
         ((entries : List Bytes) × AreShortEntries entries × (bytes.now ≡ bundle_text entries))
@@ -151,7 +151,7 @@ fn are_entries(bytes: &[u8]) -> bool
     true
 }
 
-// The entries that bytes are, each with its length in front.
+// Returns the entries in these bytes, each with its length before it.
 fn split_entries<A: Allocator + Copy>(
     alloc: A,
     bytes: &[u8],
@@ -174,8 +174,8 @@ fn split_entries<A: Allocator + Copy>(
     Ok(entries)
 }
 
-/// The commit that has these bytes. It is `Malformed` exactly where none has, before memory is asked for, and
-/// `OutOfMemory` where memory is refused.
+/// Returns the commit that has these bytes. It is `Malformed` if and only if no commit has them, which is decided
+/// before anything is allocated, and `OutOfMemory` if allocation fails.
 pub(crate) fn read_commit<A: Allocator + Copy>(
     alloc: A,
     bytes: &[u8],
@@ -205,7 +205,8 @@ pub(crate) fn read_commit<A: Allocator + Copy>(
     })
 }
 
-/// What comes behind so many entries, each with its length in front; `None` where there are fewer. It takes no memory.
+/// Returns the bytes after the first `count` entries, each with its length before it, or `None` if there are fewer.
+/// It allocates nothing.
 pub(crate) fn behind(bytes: &[u8], count: u64) -> Option<&[u8]>
     ensures { MatchOption result ((rest : Bytes) → ¬ (IsBehind bytes.now count rest))
         (λ rest. IsBehind bytes.now count rest.now) }

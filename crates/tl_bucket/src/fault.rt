@@ -14,22 +14,22 @@ use tl_s3::ObjectFault;
 /// Why a bucket failed.
 #[derive(Clone, Copy, Debug, PartialEq, Eq)]
 pub enum BucketFault {
-    /// The store can't be reached, refused, or answered what is none of an object.
+    /// The store can't be reached, refused, or gave an answer that isn't one about an object.
     Device(DeviceFault),
-    /// The store refuses the time of a request: the clock is off.
+    /// The store rejects the time of a request: the clock is off.
     ClockIsOff,
-    /// The store does a put whose condition doesn't hold, or doesn't take conditions.
+    /// The store doesn't keep conditions: it does a put whose condition doesn't hold, or takes no conditional puts.
     NoConditions,
-    /// What was to be put is there from another operator.
+    /// Another operator has put what was to be put.
     Outrun,
-    /// A commit that is there has other bytes than one has, or doesn't go on where the log is.
+    /// The commit with this number has bytes that aren't a commit's, or doesn't continue the log.
     BadCommit(u64),
-    /// No log is there that could be gone on from.
+    /// There is no log to go on from.
     NothingThere,
 }
 
 impl BucketFault {
-    /// Why a request failed, after its time or before.
+    /// Returns why a request failed, given whether its time was over.
     pub(crate) fn of_request(fault: ObjectFault, is_late: bool) -> BucketFault {
         BucketFault::Device(match fault {
             ObjectFault::OutOfMemory | ObjectFault::Get(HttpFault::OutOfMemory) =>
@@ -49,7 +49,7 @@ impl BucketFault {
         })
     }
 
-    /// Whether the same request may fare better later.
+    /// Reports whether the same request may succeed later.
     pub(crate) fn is_passing(&self) -> bool {
         match self {
             BucketFault::Device(DeviceFault::Status(status)) => {
@@ -68,7 +68,7 @@ impl BucketFault {
         }
     }
 
-    /// The same, as a shelf fails.
+    /// Returns the fault as that of a shelf.
     pub fn of_shelf(self) -> DeviceFault {
         match self {
             BucketFault::Device(fault) => fault,

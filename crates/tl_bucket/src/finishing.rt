@@ -1,4 +1,4 @@
-//! Commits that were begun by who came before, and are finished by who starts.
+//! Finishing commits that another run began.
 
 ghost use Rattle.std.specs.Prelude.{◌≡◌, IfOk, IsTrue, OnOk, map, vec_items};
 ghost use Rattle.tl_append.specs.Appending.{course};
@@ -33,7 +33,7 @@ impl<D: CrashOutcome + PutsTogether + Drop, H: Net<Stream = TcpStream> + Clock> 
     D,
     H,
 > {
-    // That the bucket failed, which it does from then on.
+    // Makes each later staging and settling fail, and returns the fault.
     fn failed(&mut self, fault: BucketFault) -> RunFault
         ensures events { self.new.events ≡ self.old.events }
         ensures place { self.new.place ≡ self.old.place }
@@ -42,7 +42,7 @@ impl<D: CrashOutcome + PutsTogether + Drop, H: Net<Stream = TcpStream> + Clock> 
         RunFault::of_device(Place::Log(None), fault.of_shelf())
     }
 
-    // Whether the checkpoint that is there tells all that is committed.
+    // Reports whether the checkpoint that is there states the size of all that is committed.
     fn shows_all(&self) -> bool
         ensures { IsTrue result → ShowsSize self.now.objects.shown self.now.objects.claims.start }
     {
@@ -55,7 +55,8 @@ impl<D: CrashOutcome + PutsTogether + Drop, H: Net<Stream = TcpStream> + Clock> 
         }
     }
 
-    // The number of the first commit that appends entries behind so many: one more than the last where none does.
+    // Returns the number of the first commit that comes after at least `size` entries: if there is none, the number
+    // after the last.
     fn first_behind(&self, size: u64) -> Result<u64, BucketFault>
         ensures { IfOk result
             (IsFirstBehind self.now.objects.at size self.now.objects.claims.number) }
@@ -75,7 +76,7 @@ impl<D: CrashOutcome + PutsTogether + Drop, H: Net<Stream = TcpStream> + Clock> 
         Err(BucketFault::BadCommit(number))
     }
 
-    // The entries of the commit with this number, which are to be put next behind so many.
+    // Returns the entries of the commit with this number, which has to come after `size` entries. They are put next.
     fn take_entries(
         &mut self,
         client: &Client<'_, H>,
@@ -128,8 +129,9 @@ impl<D: CrashOutcome + PutsTogether + Drop, H: Net<Stream = TcpStream> + Clock> 
         }
     }
 
-    /// Puts and shows what commits append behind the log that was shown, which is the ledger's: each under a note of
-    /// its checkpoint by the key, whose name is the log's. Others may do the same meanwhile, and put the same.
+    /// Puts and shows what commits append behind the log of this ledger, which was shown, each under a note of its
+    /// checkpoint by the key, whose name is the log's. Other operators may do the same meanwhile, and put the same
+    /// bytes.
     pub fn finish<K: LogSigner>(
         &mut self,
         alloc: Global,
@@ -158,8 +160,8 @@ impl<D: CrashOutcome + PutsTogether + Drop, H: Net<Stream = TcpStream> + Clock> 
         self.check_size(ledger.size())
     }
 
-    // Why the log which is shown has another size than the commits append. `Outrun`: it has more, and there is a commit
-    // behind those that were found, since another operator went on meanwhile.
+    // Returns why the log that is shown has another size than the commits append. `Outrun`: it has more, and there is
+    // a commit after those that were found, because another operator went on meanwhile.
     fn why_uneven(&self, size: u64) -> BucketFault {
         let (number, start) = (self.objects.claims.number(), self.objects.claims.start());
         if size < start {
@@ -172,7 +174,7 @@ impl<D: CrashOutcome + PutsTogether + Drop, H: Net<Stream = TcpStream> + Clock> 
         }
     }
 
-    // Checks that the log which is shown has what the commits append.
+    // Checks that the log that is shown has as many entries as the commits append.
     fn check_size(&mut self, size: u64) -> Result<(), RunFault>
         ensures events { self.new.events ≡ self.old.events }
         ensures place { self.new.place ≡ self.old.place }
@@ -187,9 +189,9 @@ impl<D: CrashOutcome + PutsTogether + Drop, H: Net<Stream = TcpStream> + Clock> 
     }
 }
 
-/// Finishes the commits of the log of this name in a bucket, under the key that is given, which its checkpoint has to
-/// open: what they append is put and shown. Where the checkpoint tells all of them, nothing more is read. `BadOrigin`:
-/// no key has this name.
+/// Finishes the commits of the log of this name in a bucket: puts and shows what they append, under this key, which
+/// has to open the log's checkpoint. If the checkpoint states the size of all of them, nothing more is read.
+/// `BadOrigin`: no key can have this name.
 pub fn finish_log<
     F: Files,
     D: CrashOutcome + PutsTogether + Drop,

@@ -1,4 +1,4 @@
-//! What holds of a bucket, whatever its operators send and whatever becomes of it.
+//! What holds of a bucket, whatever its operators send and whatever happens to it.
 
 ghost use Rattle.std.specs.Prelude.{◌≡◌, ◌≢◌, ◌⊎◌, ℕ, suc, ◌<◌, ◌≤◌, List, ◌++◌, length, All, Some, None, Option, Contains};
 ghost use Rattle.tl_hash.specs.Bytes.{Bytes};
@@ -12,8 +12,8 @@ ghost use Rattle.tl_bucket.specs.Bucket.{Committed, IsCommitted, Request, put_ch
 ghost use Rattle.tl_bucket.specs.Operators.{beginning, IsWhole, Leads, MaySend, Setting, TellsSize, World};
 ghost use Rattle.tl_bucket.specs.Histories.{AreConsistent, HaveOneTag, NeverShrinks, IsCheckpointOf};
 
-/// Of any two checkpoints that operators ever sent, and so of any two that were ever shown, the one's entries begin the
-/// other's, whatever the entity tags: no operator signs a fork.
+/// States that of any two checkpoints that operators ever sent, and so of any two that were ever shown, the entries
+/// of one are a prefix of the other's, whatever the entity tags: no operator signs a fork.
 pub fn operators_never_fork()
     ensures sent { (setting : Setting) (w : World) → Leads setting beginning w
         → (wanted other : Option Bytes) (p q : Prefix) → Contains w.sent (put_checkpoint wanted p)
@@ -23,22 +23,22 @@ pub fn operators_never_fork()
         → AreConsistent p.entries q.entries }
 {}
 
-/// What is shown is never rolled back: the entries of each publication begin those of each later one; or two different
-/// notes that were shown have one entity tag.
+/// States that what is shown is never rolled back: the entries of each publication are a prefix of those of each
+/// later one. Else two different notes that were shown have one entity tag.
 pub fn shown_log_never_rolls_back()
     ensures { (setting : Setting) (w : World) → Leads setting beginning w
         → NeverShrinks w.shown ⊎ HaveOneTag setting.tag w.shown }
 {}
 
-/// Each note of a log's checkpoint tells its size, whoever signed it: it may be sent.
+/// States that each note of a log's checkpoint states its size, whoever signed it: so it may be sent.
 pub fn checkpoints_tell_size()
     ensures { (origin : Bytes) (entries : List Bytes) (note : Bytes)
         → IsCheckpointOf origin entries note → TellsSize note (length entries) }
 {}
 
-/// What was shown some operator sent. The checkpoint that is there is that of the last publication, and all is there
-/// that it needs. Each publication that was ever shown is whole then and at any later time: who read its checkpoint
-/// finds the rest, however late.
+/// States that some operator sent what was shown, that the checkpoint that is there is that of the last publication,
+/// and that all that it needs is there. Each publication that was ever shown is whole then and at any later time: a
+/// client that read its checkpoint finds the rest, however late.
 pub fn shown_log_is_complete()
     ensures sent { (setting : Setting) (w : World) → Leads setting beginning w
         → (q : Prefix) → Contains w.shown q
@@ -51,14 +51,14 @@ pub fn shown_log_is_complete()
         → Leads setting w later → All (IsWhole setting later.store) w.shown }
 {}
 
-/// A tile or bundle that is there keeps its bytes, whoever puts it again, and however late.
+/// States that a tile or bundle that is there keeps its bytes, whoever puts it again, and however late.
 pub fn stored_bytes_stay()
     ensures { (setting : Setting) (w later : World) → Leads setting beginning w
         → Leads setting w later → (r : Resource) (bytes : Bytes) → r ≢ resource.Checkpoint
         → w.store.held r ≡ Some bytes → later.store.held r ≡ Some bytes }
 {}
 
-/// What a committed log needs has that log's bytes where it is there: an operator need only see that it is.
+/// States that what a committed log needs has that log's bytes if it is there: an operator need only see that it is.
 pub fn stored_bytes_are_right()
     ensures { (setting : Setting) (w : World) → Leads setting beginning w
         → (entries : List Bytes) (r : Resource) (bytes : Bytes) → IsCommitted w.store entries
@@ -66,8 +66,8 @@ pub fn stored_bytes_are_right()
         → bytes ≡ text_of setting.digest r entries }
 {}
 
-/// A committed log is there whole once all is there that it needs and some log that was shown didn't: an operator puts
-/// what is new alone.
+/// States that a committed log is there whole once all is there that it needs and some shown log didn't need: an
+/// operator puts only what is new.
 pub fn new_resources_suffice()
     ensures { (setting : Setting) (w : World) → Leads setting beginning w
         → (p : Prefix) (entries : List Bytes) → Contains w.shown p → IsCommitted w.store entries
@@ -77,15 +77,15 @@ pub fn new_resources_suffice()
         → HasAll setting.digest entries w.store.held }
 {}
 
-/// A commit that is there stays as it is.
+/// States that a commit that is there stays as it is.
 pub fn commits_stay()
     ensures { (setting : Setting) (w later : World) → Leads setting w later
         → (n : ℕ) (batch : List Bytes) → w.store.commits n ≡ Some batch
         → later.store.commits n ≡ Some batch }
 {}
 
-/// Before a commit that is there all are there, and behind the last there is none: so it is found by doubling a number
-/// and then halving.
+/// States that before a commit that is there all are there, and that after the last there is none. So the last is
+/// found by doubling a number and then halving.
 pub fn commits_have_no_gap()
     ensures before { (setting : Setting) (w : World) → Leads setting beginning w
         → (m n : ℕ) (batch : List Bytes) → 0 < m → m ≤ n → w.store.commits n ≡ Some batch
@@ -95,8 +95,8 @@ pub fn commits_have_no_gap()
         × ((m : ℕ) → n < m → w.store.commits m ≡ None) }
 {}
 
-/// The log after some commits begins the log after as many or more of them at any later time: what is committed has its
-/// place for good. And of any two committed logs, then and later, one begins the other.
+/// States that the log after some commits is a prefix of the log after as many or more of them at any later time:
+/// what is committed keeps its index. Of any two committed logs, then and later, one is a prefix of the other.
 pub fn committed_logs_extend()
     ensures front { (setting : Setting) (w later : World) → Leads setting w later
         → (m n : ℕ) (a b : List Bytes) → m ≤ n → Committed w.store m a
@@ -106,15 +106,15 @@ pub fn committed_logs_extend()
         → AreConsistent a b }
 {}
 
-/// What may be sent may be sent later: what an operator goes by stays true, however late its request is.
+/// States that what may be sent may be sent later: what an operator acts on stays true, however late its request is.
 pub fn leave_to_send_stays()
     ensures { (setting : Setting) (w later : World) → Leads setting beginning w
         → Leads setting w later → (request : Request) → MaySend setting w request
         → MaySend setting later request }
 {}
 
-/// Whatever came before, whoever crashed and wherever, the log can go on: any entries can be committed behind the last
-/// commit, and all that is committed can be shown, if there is a note of it.
+/// States that whatever came before, and wherever an operator crashed, the log can go on: any entries can be
+/// committed after the last commit, and all that is committed can be shown, if there is a note of it.
 pub fn log_can_go_on()
     ensures commit { (setting : Setting) (w : World) → Leads setting beginning w
         → (n : ℕ) (entries batch : List Bytes) → Committed w.store n entries
@@ -127,7 +127,7 @@ pub fn log_can_go_on()
         → (later : World) × Leads setting w later × (last_of later.shown ≡ Some q) }
 {}
 
-/// Bytes are those of one commit at most, and one rest comes behind so many entries.
+/// States that bytes are those of one commit at most, and that one rest follows the first `count` entries.
 pub fn commits_have_one_reading()
     ensures commit { (bytes : Bytes) (c d : Commit)
         → IsCommit bytes c → IsCommit bytes d → c ≡ d }

@@ -1,12 +1,26 @@
-//! A log in a bucket: several operators of one log, and one store of objects whose puts may have conditions (RFC 9110,
-//! "If-Match" and "If-None-Match"). They agree by commits: who appends entries puts them under the next `commit/N`
-//! first, where nothing may be; then what the log needs is put; and then its checkpoint, in the place of an older one.
+//! A log in a bucket, which several operators may share (C2SP tlog-tiles; for the conditions of puts RFC 9110,
+//! "If-Match" and "If-None-Match").
 //!
-//! ```
+//! A bucket is a store of objects whose puts may have conditions, such as S3. A log in it has the layout of
+//! tlog-tiles, so clients read it as any other. Its operators agree by *commits*: an operator that appends entries
+//! first puts them under the next `commit/N`, on condition that nothing is there yet. Then it puts the tiles and
+//! bundles that the committed log needs, and last the checkpoint, on condition that the old one is still there. An
+//! operator that finds commits behind the checkpoint finishes them first. So of any two checkpoints that operators
+//! sign, the entries of one are a prefix of the other's, whoever crashes or loses a race. The laws of this crate,
+//! such as `operators_never_fork`, state that and more.
+//!
+//! `BucketShelf` is such a bucket as a `Shelf`. Open it and finish what was begun; then use it as a folder, with
+//! `run_append` or `SealedShelf` (`tl_append`). `BucketShelf::reader` opens it for reading alone.
+//!
+//! ```rust
 //! let client = Client::new(&rt, alloc, url, credential);
+//! // `token` is a line that no other run has; `false`: the log is there already
 //! let mut shelf = BucketShelf::open(disk, client, address, token, false)?;
-//! finish_log(&rt, alloc, origin, &key, &mut shelf)?; // what was begun before
-//! // now it is a shelf as a folder is: run_append, SealedShelf
+//! finish_log(&rt, alloc, origin, &key, &mut shelf)?; // what other operators committed is put and shown
+//! let start = Some(shelf.committed()); // how many entries the log must have
+//! run_append(
+//!     &rt, alloc, &options, start, Joining::AtHand, &mut shelf, &NoProposals, &mut found, &mut reader, &mut writer,
+//! )?;
 //! ```
 #![tactic(auto)]
 

@@ -1,4 +1,4 @@
-//! The checkpoint of a log in a bucket, and what is read of the bucket.
+//! The checkpoint of a log in a bucket, and reading of the bucket.
 
 ghost use Rattle.std.specs.Prelude.{◌≡◌, [], Some, All, IfOk, IfSome, option_map, string_bytes};
 ghost use Rattle.tl_bucket.specs.Answered.{IsBare, WasRead, WasReadWith};
@@ -28,7 +28,7 @@ use tl_tile::Resource;
 /// The path of the checkpoint.
 pub(crate) const CHECKPOINT: &str = "/checkpoint";
 
-// An entity tag without its quotes, if it has some.
+// Returns an entity tag without its quotes, if it has any.
 fn unquoted(etag: &[u8]) -> Option<&[u8]>
     ensures { IfSome result (λ tag. IsBare etag.now tag.now) }
 {
@@ -41,7 +41,7 @@ fn unquoted(etag: &[u8]) -> Option<&[u8]>
     }
 }
 
-// An entity tag as If-Match is given it: without its quotes, which Ceph's gateway doesn't take.
+// Returns an entity tag as If-Match takes it: without its quotes, which Ceph's gateway doesn't accept.
 fn bare_tag(etag: &[u8]) -> Option<&str>
     ensures { IfSome result (λ tag. IsBare etag.now tag.now) }
 {
@@ -54,7 +54,7 @@ fn bare_tag(etag: &[u8]) -> Option<&str>
     }
 }
 
-// The entity tag that an answer gives, as If-Match is given it. `NoConditions`: there is none.
+// Returns the entity tag of an answer, as If-Match takes it. `NoConditions`: the answer has none.
 fn own_tag(alloc: Global, etag: &Option<Vec<u8>>) -> Result<String, BucketFault>
     ensures { IfOk result (λ tag. (text : Bytes) × (value_bytes etag.now ≡ Some text)
         × IsBare text (string_bytes tag)) }
@@ -68,16 +68,16 @@ fn own_tag(alloc: Global, etag: &Option<Vec<u8>>) -> Result<String, BucketFault>
     }
 }
 
-/// A checkpoint that is there.
+/// The checkpoint that is there.
 #[derive(Drop)]
 pub(crate) struct Shown {
     /// Its note.
     pub(crate) note: Vec<u8>,
-    /// Its entity tag, as If-Match is given it.
+    /// Its entity tag, as If-Match takes it.
     pub(crate) etag: String,
 }
 
-/// The checkpoint that is there, if there is one: its note and its entity tag are of one answer.
+/// Returns the checkpoint that is there, if there is one: its note and its entity tag are of one answer.
 pub(crate) fn find_shown<H: Net<Stream = TcpStream> + Clock>(
     client: &Client<'_, H>,
     connection: &mut Connection,
@@ -93,7 +93,7 @@ pub(crate) fn find_shown<H: Net<Stream = TcpStream> + Clock>(
     Ok(Some(Shown { note: body, etag }))
 }
 
-/// How many entries the second line of a note tells (C2SP tlog-checkpoint).
+/// Returns the size in the second line of a note (C2SP tlog-checkpoint).
 pub(crate) fn size_told(note: &[u8]) -> Option<u64>
     ensures { IfSome result (TellsSize note.now) }
 {
@@ -106,7 +106,7 @@ pub(crate) fn size_told(note: &[u8]) -> Option<u64>
     read_size(number)
 }
 
-// When a checkpoint is to be put.
+// Returns the condition under which a checkpoint is put.
 fn replacing(shown: &Option<Shown>) -> Condition<'_>
     ensures { IsReplacing (option_map shown_of shown.now) result }
 {
@@ -116,7 +116,8 @@ fn replacing(shown: &Option<Shown>) -> Condition<'_>
     }
 }
 
-// The entity tag of the checkpoint that is there, where it has these bytes. `Outrun`: another one is there, or none.
+// Returns the entity tag of the checkpoint that is there, if it has these bytes. `Outrun`: another one is there, or
+// none.
 fn tag_of_note<H: Net<Stream = TcpStream> + Clock>(
     client: &Client<'_, H>,
     connection: &mut Connection,
@@ -132,8 +133,8 @@ fn tag_of_note<H: Net<Stream = TcpStream> + Clock>(
     }
 }
 
-/// Puts the checkpoint, once these tiles and bundles are there, in the place of the one that was shown, or where none
-/// is, and gives the tag of the new one. `Outrun`: another one is there.
+/// Puts the checkpoint in the place of the one that was shown, or where none is, once these tiles and bundles are
+/// there. Returns the tag of the new one. `Outrun`: another one is there.
 pub(crate) fn put_note<H: Net<Stream = TcpStream> + Clock>(
     client: &Client<'_, H>,
     connection: &mut Connection,
@@ -155,7 +156,7 @@ pub(crate) fn put_note<H: Net<Stream = TcpStream> + Clock>(
     }
 }
 
-/// The bytes of the object of a resource, over a connection of its own; `None` where there is none.
+/// Returns the bytes of the object of a resource, read over a new connection, or `None` if there is none.
 pub(crate) fn read_object<A: Allocator, H: Net<Stream = TcpStream> + Clock>(
     alloc: A,
     client: &Client<'_, H>,

@@ -17,8 +17,8 @@ use std::net::{Net, TcpStream};
 use std::time::Clock;
 use tl_tile::Resource;
 
-/// The objects of a log in a bucket, and those that wait to be put. Where a settling fails, each later call fails with
-/// its fault.
+/// The objects of a log in a bucket, and those that wait to be put. If a settling fails, each later call that keeps
+/// or puts fails with its fault.
 #[derive(Drop)]
 pub(crate) struct Objects<'b, H> {
     alloc: Global,
@@ -49,7 +49,7 @@ impl<'b, H> Model for Objects<'b, H> {
 }
 
 impl<'b, H: Net<Stream = TcpStream> + Clock> Objects<'b, H> {
-    /// Nothing waits. The log goes as far as the claims do, and this is its checkpoint, if there is one.
+    /// Creates the objects of a log that goes as far as the claims do and has this checkpoint, if any. Nothing waits.
     pub(crate) fn new(client: Client<'b, H>, claims: Claims, shown: Option<Shown>) -> Objects<'b, H>
         ensures { result ≡ no_objects client.entry claims (option_map shown_of shown) }
     {
@@ -67,7 +67,7 @@ impl<'b, H: Net<Stream = TcpStream> + Clock> Objects<'b, H> {
         }
     }
 
-    /// The note of the checkpoint that was there, if one was.
+    /// Returns the note of the checkpoint that was there, if any.
     pub(crate) fn note_shown(&self) -> Option<&[u8]>
         ensures { option_map (λ note. note.now) result
             ≡ option_map (λ shown. shown.note) self.now.shown }
@@ -78,7 +78,7 @@ impl<'b, H: Net<Stream = TcpStream> + Clock> Objects<'b, H> {
         }
     }
 
-    // Has a tile or a bundle wait.
+    // Adds a tile or a bundle to those that wait.
     fn wait(&mut self, staged: Staged) -> Result<(), BucketFault>
         ensures { OnOk result (self.new ≡ record self.old {
           waiting = self.old.waiting ++ item_of staged ∷ [];
@@ -109,7 +109,7 @@ impl<'b, H: Net<Stream = TcpStream> + Clock> Objects<'b, H> {
         }
     }
 
-    /// Keeps the bytes of a resource until all are put. Where that fails, none is put: what waits may be tiles of
+    /// Keeps the bytes of a resource until all are put. If that fails, nothing is put: what waits may be tiles of
     /// entries that are in no bundle yet, and so in no commit.
     pub(crate) fn keep(&mut self, resource: &Resource, bytes: &[u8]) -> Result<(), BucketFault>
         ensures kept { OnOk result (KeepsBytes resource.now bytes.now self.old self.new) }
@@ -145,8 +145,8 @@ impl<'b, H: Net<Stream = TcpStream> + Clock> Objects<'b, H> {
         Ok(())
     }
 
-    /// Puts all that waits: the commit of the entries that the bundles add; then tiles and bundles, side by side; then
-    /// the checkpoint.
+    /// Puts all that waits: the commit of the entries that the bundles add, then tiles and bundles, side by side, and
+    /// then the checkpoint.
     pub(crate) fn settle<D: PutsTogether>(&mut self, disk: &D) -> Result<(), BucketFault>
         ensures { OnOk result (SettlesObjects self.old self.new) }
     {

@@ -1,4 +1,4 @@
-//! A bucket that is opened: whether its store keeps conditions, and how far its log goes.
+//! Opening a bucket: whether its store keeps conditions, and how far its log goes.
 
 ghost use Rattle.std.specs.Prelude.{◌≡◌, None, IfOk, OnOk, MatchBool, map, option_map, string_bytes, vec_items};
 ghost use Rattle.tl_bucket.specs.Answered.{WasPut};
@@ -25,7 +25,7 @@ use tl_device::DeviceFault;
 use tl_folder::CrashOutcome;
 use tl_s3::{Condition, Object};
 
-// What is put to see whether a store keeps conditions.
+// The object that is put to see whether a store keeps conditions.
 const PROBE: Object<'static> = Object {
     path: "/probe",
     content_type: "text/plain; charset=utf-8",
@@ -33,7 +33,7 @@ const PROBE: Object<'static> = Object {
     body: b"no tlog was here\n",
 };
 
-// Checks that a put of another content, which no run had before, is refused under this condition, which doesn't hold.
+// Checks that a put of other content, which no run had before, is refused under this condition, which doesn't hold.
 fn check_refused<H: Net<Stream = TcpStream> + Clock>(
     client: &Client<'_, H>,
     connection: &mut Connection,
@@ -53,7 +53,7 @@ fn check_refused<H: Net<Stream = TcpStream> + Clock>(
     }
 }
 
-// Checks that the store refuses a put whose condition doesn't hold (RFC 9110, sections 13.1.1 and 13.1.2).
+// Checks that the store refuses puts whose condition doesn't hold (RFC 9110, sections 13.1.1 and 13.1.2).
 fn check_conditions<H: Net<Stream = TcpStream> + Clock>(
     client: &Client<'_, H>,
     connection: &mut Connection,
@@ -66,7 +66,7 @@ fn check_conditions<H: Net<Stream = TcpStream> + Clock>(
     check_refused(client, connection, token, Condition::Matches("0"))
 }
 
-/// Whether the commit with this number is there.
+/// Reports whether the commit with this number is there.
 pub(crate) fn has_commit<H: Net<Stream = TcpStream> + Clock>(
     client: &Client<'_, H>,
     connection: &mut Connection,
@@ -81,7 +81,7 @@ pub(crate) fn has_commit<H: Net<Stream = TcpStream> + Clock>(
     Ok(true)
 }
 
-// A power of two whose commit isn't there, and the one before it, whose commit is, or 0.
+// Returns a power of two whose commit isn't there, and the power of two before it, whose commit is, or 0.
 fn find_bounds<H: Net<Stream = TcpStream> + Clock>(
     client: &Client<'_, H>,
     connection: &mut Connection,
@@ -99,7 +99,7 @@ fn find_bounds<H: Net<Stream = TcpStream> + Clock>(
     Err(BucketFault::Device(DeviceFault::TooLarge))
 }
 
-// Nearer bounds of the last commit, by one in the middle.
+// Returns closer bounds of the last commit, after a look at the middle.
 fn halve<H: Net<Stream = TcpStream> + Clock>(
     client: &Client<'_, H>,
     connection: &mut Connection,
@@ -117,7 +117,7 @@ fn halve<H: Net<Stream = TcpStream> + Clock>(
     }
 }
 
-// The number of the last commit, 0 where there is none: found by doubling a number, and then halving.
+// Returns the number of the last commit, or 0 if there is none, by doubling a number and then halving.
 fn last_commit<H: Net<Stream = TcpStream> + Clock>(
     client: &Client<'_, H>,
     connection: &mut Connection,
@@ -134,7 +134,8 @@ fn last_commit<H: Net<Stream = TcpStream> + Clock>(
     Err(BucketFault::Device(DeviceFault::TooLarge))
 }
 
-/// The commit with this number, which is there. `BadCommit`: its bytes are none of a commit, or it has no entries.
+/// Returns the commit with this number, which is there. `BadCommit`: its bytes aren't a commit's, or it has no
+/// entries.
 pub(crate) fn read_numbered<H: Net<Stream = TcpStream> + Clock>(
     client: &Client<'_, H>,
     connection: &mut Connection,
@@ -156,7 +157,7 @@ pub(crate) fn read_numbered<H: Net<Stream = TcpStream> + Clock>(
     }
 }
 
-// How many entries all commits up to the one with this number append.
+// Returns how many entries all commits up to the one with this number append.
 fn committed_size<H: Net<Stream = TcpStream> + Clock>(
     client: &Client<'_, H>,
     connection: &mut Connection,
@@ -174,7 +175,7 @@ fn committed_size<H: Net<Stream = TcpStream> + Clock>(
     }
 }
 
-// The claims of an operator with this token, whose next commit comes behind the last one.
+// Returns the claims of an operator with this token, whose next commit comes after the last one.
 fn claims_behind<H: Net<Stream = TcpStream> + Clock>(
     client: &Client<'_, H>,
     connection: &mut Connection,
@@ -190,15 +191,15 @@ fn claims_behind<H: Net<Stream = TcpStream> + Clock>(
     }
 }
 
-// Whether a log is there, by the commits and the checkpoint that were found.
+// Reports whether a log is there, by the commits and the checkpoint that were found.
 fn has_log(claims: &Claims, shown: &Option<Shown>) -> bool
     ensures { result ≡ has_log claims.now (option_map shown_of shown.now) }
 {
     claims.number() > 1 || shown.is_some()
 }
 
-// Checks that a log begins as it is asked to. `Taken`: there is one, and none is to be. `NothingThere`: there is none that
-// could be gone on from.
+// Checks that a log is there if and only if it isn't to begin. `Taken`: there is a log, and a new one was to begin.
+// `NothingThere`: there is no log to go on from.
 fn check_begins(is_new: bool, claims: &Claims, shown: &Option<Shown>) -> Result<(), BucketFault>
     ensures { OnOk result (BeginsThere is_new claims.now (option_map shown_of shown.now)) }
 {
@@ -212,11 +213,11 @@ fn check_begins(is_new: bool, claims: &Claims, shown: &Option<Shown>) -> Result<
 impl<'b, D: CrashOutcome + Drop, H: Net<Stream = TcpStream> + Clock> BucketShelf<'b, D, H> {
     ghost use Rattle.std.specs.Prelude.{[], false};
 
-    /// The bucket that the client reaches, by this address. The token is a line that tells the operator's commits from
-    /// all others'. `Taken`: a log is to begin, and one is there. `NothingThere`: none is to begin, and none is there.
-    /// `NoConditions`: the store doesn't keep the conditions of puts. `ClockIsOff`: the machine's clock isn't the
-    /// store's. Nothing of a log is put; to see whether a store keeps conditions takes puts of `probe`, once a log may
-    /// begin or be gone on from.
+    /// Opens the bucket that the client reaches, by this address. The token is a line that distinguishes the
+    /// operator's commits from all others. `Taken`: a log is to begin, and one is there. `NothingThere`: none is to
+    /// begin, and none is there. `NoConditions`: the store doesn't keep the conditions of puts. `ClockIsOff`: the
+    /// machine's clock differs from the store's. Nothing of a log is put; only `probe` is, once the log may begin or
+    /// go on, to see whether the store keeps conditions.
     pub fn open(
         disk: D,
         client: Client<'b, H>,
@@ -248,8 +249,8 @@ impl<'b, D: CrashOutcome + Drop, H: Net<Stream = TcpStream> + Clock> BucketShelf
         Ok(BucketShelf::new(disk, client, address, claims, shown, false))
     }
 
-    /// The bucket that the client reaches, by this address, to be read alone: what is staged would be refused by any
-    /// store that has a commit. Nothing is asked for yet.
+    /// Opens the bucket that the client reaches, by this address, for reading alone: any store that has a commit
+    /// would refuse what is staged. Nothing is requested yet.
     pub fn reader(disk: D, client: Client<'b, H>, address: &str) -> BucketShelf<'b, D, H>
         ensures objects { result.objects ≡ no_objects client.entry (no_claims 1 0 [] None) None }
         ensures place { result.place ≡ address.now }

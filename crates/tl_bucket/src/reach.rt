@@ -1,4 +1,4 @@
-//! How a worker reaches its bucket: an address and a key of its own.
+//! How a worker reaches its bucket, with an address and a key of its own.
 
 ghost use Rattle.std.specs.Prelude.{◌≡◌, IfOk, IsTrue};
 
@@ -40,7 +40,7 @@ impl Model for Reach {
 }
 
 impl Reach {
-    /// The client's address and key.
+    /// Copies the client's address and key.
     pub(crate) fn of<H>(client: &Client<'_, H>) -> Result<Reach, AllocError>
         ensures { IfOk result (λ reach. reach ≡ client.now) }
     {
@@ -58,7 +58,7 @@ impl Reach {
         })
     }
 
-    /// A client with this address and key.
+    /// Returns a client with this address and key.
     pub(crate) fn client<'r, H>(&'r self, rt: &'r H, alloc: Global) -> Client<'r, H>
         ensures { result ≡ self.entry.now }
     {
@@ -77,7 +77,7 @@ impl Reach {
         Client::new(rt, alloc, url, credential)
     }
 
-    // Whether the key is the client's.
+    // Reports whether the key is the client's.
     fn has_key_of<H>(&self, client: &Client<'_, H>) -> bool
         ensures { IsTrue result → self.now.credential ≡ client.now.credential }
     {
@@ -88,7 +88,7 @@ impl Reach {
             && self.service.as_str() == credential.service
     }
 
-    /// Whether the client's bucket and key are these.
+    /// Reports whether address and key are the client's.
     pub(crate) fn is_of<H>(&self, client: &Client<'_, H>) -> bool
         ensures { IsTrue result → self.now ≡ client.now }
     {

@@ -7,7 +7,7 @@ use http_server::Log;
 use std::marker::Model;
 use tl_folder::CallOutcome;
 
-/// What came of each call so far. It takes no memory.
+/// The outcome of each call so far. It allocates nothing.
 #[derive(Drop)]
 pub(crate) struct Record {
     log: Log<CallOutcome, Log<(), u8>>,
@@ -22,7 +22,7 @@ impl Model for Record {
     ghost view = { λ r. map seen.event_of r.log.items };
 }
 
-// Notes bytes, for clauses alone.
+// Appends bytes to a record, for clauses alone.
 fn note_bytes(note: &mut Log<(), u8>, bytes: &[u8])
     ensures { noted note.new ≡ noted note.old ++ bytes.now }
 {
@@ -31,7 +31,7 @@ fn note_bytes(note: &mut Log<(), u8>, bytes: &[u8])
     }
 }
 
-/// A note of bytes, for clauses alone.
+/// Records bytes, for clauses alone.
 pub(crate) fn note_of(bytes: &[u8]) -> Log<(), u8>
     ensures { noted result ≡ bytes.now }
 {
@@ -41,14 +41,14 @@ pub(crate) fn note_of(bytes: &[u8]) -> Log<(), u8>
 }
 
 impl Record {
-    /// No call yet.
+    /// Creates a record of no calls.
     pub(crate) fn new() -> Record
         ensures { result ≡ [] }
     {
         Record { log: Log::new() }
     }
 
-    /// Notes what came of a call, and the bytes that it staged.
+    /// Records the outcome of a call, and the bytes that it staged.
     pub(crate) fn note(&mut self, call: CallOutcome, bytes: &[u8])
         ensures { self.new ≡ self.old ++ (call, bytes.now) ∷ [] }
     {

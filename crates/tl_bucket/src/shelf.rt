@@ -1,5 +1,5 @@
-//! A shelf in a bucket. What is staged waits in memory; the shelf settles by a commit, the tiles and bundles side by
-//! side, and the checkpoint.
+//! A shelf in a bucket. What is staged waits in memory. Settling puts the commit, the tiles and bundles side by side,
+//! and the checkpoint.
 
 ghost use Rattle.std.specs.Prelude.{◌≡◌, [], ◌∷◌, ◌++◌, OnOk, OnErr, Some, None, IfOk, option_map, vec_items};
 ghost use Rattle.tl_bucket.specs.Buckets.{SettlesObjects, bucket_kept, bucket_trace, no_objects};
@@ -22,10 +22,10 @@ use tl_device::DeviceFault;
 use tl_folder::{CallOutcome, CrashOutcome};
 use tl_tile::Resource;
 
-/// A bucket with a log in the layout of C2SP tlog-tiles: the path of each resource is that of its object. Where a
-/// settling fails, each later call fails with its fault: what of it is there isn't known then, and another start finds
-/// out. Nothing is ever removed. The checkpoint that it reads is the one that was there when it was opened, or that it
-/// put since: a store may answer with an older one later.
+/// A bucket with a log in the layout of C2SP tlog-tiles: the path of each resource is that of its object. If a
+/// settling fails, each later staging and settling fails with its fault: how much of it is there isn't known, and the
+/// next start finds out. Nothing is ever removed. The checkpoint that it reads is the one that was there when it was
+/// opened, or that it put since: a store may answer with an older one later.
 #[derive(Drop)]
 pub struct BucketShelf<'b, D, H> {
     disk: D,
@@ -53,7 +53,7 @@ impl<'b, D, H> Model for BucketShelf<'b, D, H> {
     } };
 }
 
-// That the bucket failed over a resource, or over all of it.
+// Returns the fault of a shelf, over a resource or over all of the bucket.
 fn fault_over(resource: Option<Resource>, fault: BucketFault) -> ShelfFault
     ensures { result.resource ≡ resource }
 {
@@ -63,7 +63,7 @@ fn fault_over(resource: Option<Resource>, fault: BucketFault) -> ShelfFault
     }
 }
 
-// A copy of these bytes, if there are some.
+// Copies these bytes, if there are any.
 fn copy_of<A: Allocator>(alloc: A, bytes: Option<&[u8]>) -> Result<Option<Vec<u8, A>>, BucketFault>
     ensures { IfOk result (λ copy.
         option_map vec_items copy ≡ option_map (λ text. text.now) bytes.entry) }
@@ -75,8 +75,8 @@ fn copy_of<A: Allocator>(alloc: A, bytes: Option<&[u8]>) -> Result<Option<Vec<u8
 }
 
 impl<'b, D: CrashOutcome + Drop, H: Net<Stream = TcpStream> + Clock> BucketShelf<'b, D, H> {
-    /// The bucket that the client reaches, by this address, with a log as far as the claims go, whose checkpoint this
-    /// is, if there is one. It may be read anew each time.
+    /// Creates a shelf of the bucket that the client reaches, by this address. Its log goes as far as the claims do,
+    /// and has this checkpoint, if any. `reads_anew`: the checkpoint is read anew each time.
     pub(crate) fn new(
         disk: D,
         client: Client<'b, H>,
@@ -103,19 +103,19 @@ impl<'b, D: CrashOutcome + Drop, H: Net<Stream = TcpStream> + Clock> BucketShelf
         }
     }
 
-    /// How many entries commits append.
+    /// Returns how many entries commits append.
     pub fn committed(&self) -> u64
         ensures { result ≡ self.now.objects.claims.start }
     {
         self.objects.claims.start()
     }
 
-    /// Why a settling failed, if one did.
+    /// Returns why a settling failed, if one did.
     pub fn fault(&self) -> Option<BucketFault> {
         self.objects.fault
     }
 
-    /// Has each later call that writes fail.
+    /// Makes each later staging and settling fail.
     pub(crate) fn fail(&mut self, fault: BucketFault)
         ensures objects { self.new.objects ≡ self.old.objects }
         ensures events { self.new.events ≡ self.old.events }
@@ -202,7 +202,7 @@ impl<D: CrashOutcome + PutsTogether, H: Net<Stream = TcpStream> + Clock> Shelf
         }
     }
 
-    // A bucket keeps all: readers may come late, and no operator knows what another one still reads.
+    // Always fails: a bucket keeps all. Readers may come late, and no operator knows what another one still reads.
     fn remove_partials(&mut self, full: &Resource) -> Result<(), ShelfFault>
         requires { IsFull full.now }
         ensures removed { Removes full.now (bucket_kept D.held D.reached self.old)
@@ -222,7 +222,7 @@ impl<D: CrashOutcome + PutsTogether, H: Net<Stream = TcpStream> + Clock> Shelf
         Err(fault_over(Some(*full), BucketFault::Device(DeviceFault::Denied)))
     }
 
-    // Nothing is put: commits tell how far the log goes.
+    // Puts nothing: commits show how far the log goes.
     fn mark_published(&mut self, size: u64) -> Result<(), ShelfFault>
         ensures kept { bucket_kept D.held D.reached self.new ≡ bucket_kept D.held D.reached self.old }
         ensures objects { self.new.objects ≡ self.old.objects }

@@ -18,10 +18,10 @@ use tl_folder::{has_path, path_under};
 use tl_s3::{Condition, Object};
 use tl_tile::Resource;
 
-/// How long others may keep what never changes.
+/// The caching of objects that never change.
 pub(crate) const LASTING: &str = "public, max-age=31536000, immutable";
 
-// The same of what does.
+// The caching of objects that change.
 const FLEETING: &str = "no-store";
 
 /// A resource that waits to be put.
@@ -32,7 +32,7 @@ pub(crate) struct Staged {
 }
 
 impl Staged {
-    /// A copy of these bytes, for this resource.
+    /// Copies these bytes, to be put for this resource.
     pub(crate) fn of(
         alloc: Global,
         resource: &Resource,
@@ -47,7 +47,7 @@ impl Staged {
         })
     }
 
-    /// Whether the other one is of the same resource and has the same bytes.
+    /// Reports whether the other one has the same resource and the same bytes.
     pub(crate) fn is_same(&self, other: &Staged) -> bool
         ensures { IsTrue result → item_of self.now ≡ item_of other.now }
     {
@@ -55,7 +55,7 @@ impl Staged {
     }
 }
 
-/// The object of a resource, with the path under which it is.
+/// Returns the object of a resource, with its path.
 pub(crate) fn object_of<'o>(resource: &Resource, path: &'o str, body: &'o [u8]) -> Object<'o>
     ensures { path.now ≡ place_of [] resource.now
         → content_of result ≡ content_at (resource.now, body.now) }

@@ -1,4 +1,4 @@
-//! How a program has workers put side by side.
+//! How a program makes workers put side by side.
 
 use crate::workers::Worker;
 use std::fs::Files;
@@ -6,9 +6,9 @@ use std::net::{Net, TcpStream};
 use std::time::Clock;
 use tl_folder::{AnyOutcome, CrashOutcome, SideBySide, SyncKind, SyncOutcome, SyncsTogether};
 
-/// What has workers put what they have: one after another, or side by side.
+/// Makes workers put what they have, one after another or side by side.
 pub trait PutsTogether {
-    /// Has each of the workers work. One that doesn't tells that it has put nothing.
+    /// Makes each of the workers work. One that doesn't work reports that it has put nothing.
     fn put_together<H: Net<Stream = TcpStream> + Clock>(&self, rt: &H, workers: &mut [Worker]);
 }
 
@@ -20,10 +20,11 @@ impl PutsTogether for AnyOutcome {
     }
 }
 
-/// How the work of workers is spread over threads: a program hands it in, since it alone has the handle of the threads.
+/// Spreads the work of workers over threads. A program passes such a function, since it alone has the handle of the
+/// threads.
 pub type SpreadWork = fn(&HostRuntime, &mut [Worker]);
 
-/// What a program has done side by side: its disk's syncs, and puts. `spread` is to have each worker work.
+/// What a program does side by side: its disk's syncs, and its puts. `spread` makes each worker work.
 #[derive(Clone, Copy)]
 pub struct DiskAndStore {
     disk: SideBySide,
@@ -33,7 +34,7 @@ pub struct DiskAndStore {
 }
 
 impl DiskAndStore {
-    /// This disk, and a store to which workers are spread in this way.
+    /// Pairs this disk with a store to which `spread` makes workers put.
     pub fn new(disk: SideBySide, rt: HostRuntime, spread: SpreadWork) -> DiskAndStore
         requires { IsAlwaysCallable spread }
     {

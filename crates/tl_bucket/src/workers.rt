@@ -1,4 +1,4 @@
-//! Puts side by side, by workers that each have a connection of their own.
+//! Putting side by side, by workers that each have a connection of their own.
 
 ghost use Rattle.std.specs.Prelude.{◌≡◌, [], All, OnOk};
 ghost use Rattle.tl_bucket.specs.Inner.Puts.{IsThere};
@@ -16,14 +16,14 @@ use std::net::{Net, TcpStream};
 use std::time::Clock;
 use tl_device::DeviceFault;
 
-// At most so many workers put at once.
+// The most workers that put at once.
 const MOST_WORKERS: usize = 16;
 
-// What a worker tells that has put nothing.
+// The outcome of a worker that has put nothing.
 const UNPUT: BucketFault = BucketFault::Device(DeviceFault::System);
 
-/// A connection to a bucket that is kept, and objects that it is to put, which are its own. What it tells as done was
-/// there: so whoever has it work need not be trusted.
+/// A connection to a bucket that is kept, with its own copies of objects to put. If its outcome is success, all of
+/// them were there: so whatever makes it work need not be trusted.
 #[derive(Drop)]
 pub struct Worker {
     alloc: Global,
@@ -50,7 +50,7 @@ impl Model for Worker {
 }
 
 impl Worker {
-    // A worker of the client's bucket, with nothing to put.
+    // Creates a worker of the client's bucket, with nothing to put.
     fn new<H>(client: &Client<'_, H>) -> Result<Worker, BucketFault> {
         Ok(Worker {
             alloc: client.alloc,
@@ -61,21 +61,21 @@ impl Worker {
         })
     }
 
-    // Has nothing to put, and nothing to tell.
+    // Drops the objects and the outcome.
     fn clear(&mut self) {
         self.outcome = Err(UNPUT);
         self.items.clear();
     }
 
-    // Has this to put, too.
+    // Takes one more object to put.
     fn take(&mut self, item: Staged) -> Result<(), BucketFault> {
         self.outcome = Err(UNPUT);
         self.items.push(item)?;
         Ok(())
     }
 
-    /// Puts what the worker has, one after another, up to the first failure, and tells what came of it: that it is done
-    /// only where each was there.
+    /// Puts the worker's objects one after another, up to the first failure, and records the outcome, which is
+    /// success only if each was there.
     pub fn work<H: Net<Stream = TcpStream> + Clock>(&mut self, rt: &H)
         ensures at { self.new.at ≡ self.old.at }
         ensures items { self.new.items ≡ self.old.items }
@@ -86,7 +86,7 @@ impl Worker {
         self.outcome = outcome;
     }
 
-    // Checks that the item with this number was put, into this client's bucket, and is this one.
+    // Checks that the object with this number was put into this client's bucket, and is this one.
     fn check<H>(
         &self,
         client: &Client<'_, H>,
@@ -110,11 +110,11 @@ impl Worker {
 #[derive(Drop)]
 pub(crate) struct Workers {
     workers: Vec<Worker>,
-    // At most so many work at once.
+    // The most that work at once.
     most: usize,
 }
 
-// Has each worker forget what it put.
+// Makes each worker drop what it put.
 fn clear_each(workers: &mut [Worker]) {
     for worker in workers {
         worker.clear();
@@ -134,7 +134,7 @@ fn share_out(alloc: Global, staged: &[Staged], workers: &mut [Worker]) -> Result
     Ok(())
 }
 
-// Checks that the item that was given out under this number was put by its worker.
+// Checks that the item with this number was put by the worker that it was given to.
 fn check_one<H>(
     client: &Client<'_, H>,
     workers: &[Worker],
@@ -149,7 +149,7 @@ fn check_one<H>(
     workers[number % workers.len()].check(client, number / workers.len(), item)
 }
 
-// Checks that all that was given out was put.
+// Checks that all items were put.
 fn check_each<H>(
     client: &Client<'_, H>,
     workers: &[Worker],
@@ -164,7 +164,7 @@ fn check_each<H>(
 }
 
 impl Workers {
-    /// None yet.
+    /// Creates no workers yet.
     pub(crate) fn new(alloc: Global) -> Workers {
         Workers {
             workers: Vec::new(alloc),
@@ -172,7 +172,7 @@ impl Workers {
         }
     }
 
-    // Has so many workers at least, of the client's bucket.
+    // Adds workers of the client's bucket until there are at least `count`.
     fn open<H>(&mut self, client: &Client<'_, H>, count: usize) -> Result<(), BucketFault> {
         for _ in self.workers.len()..count {
             self.workers.push(Worker::new(client)?)?;
@@ -180,7 +180,7 @@ impl Workers {
         Ok(())
     }
 
-    // Puts the objects of resources, as many at once as may be.
+    // Puts the objects of resources, as many at once as allowed.
     fn try_put<D: PutsTogether, H: Net<Stream = TcpStream> + Clock>(
         &mut self,
         disk: &D,
@@ -200,9 +200,9 @@ impl Workers {
         told
     }
 
-    /// Puts the objects of resources, side by side, once the entries that are claimed for them are committed. Where a
-    /// put isn't answered in its time, the store may serve fewer connections at once: so they are let go, and there is
-    /// one from then on. Connections are kept else, and no copies.
+    /// Puts the objects of resources side by side, once the entries that are claimed for them are committed. If a put
+    /// isn't answered in time, the store may serve fewer connections at once: the workers are dropped, and there is
+    /// one from then on. Otherwise connections are kept, but no copies.
     pub(crate) fn put<D: PutsTogether, H: Net<Stream = TcpStream> + Clock>(
         &mut self,
         disk: &D,

@@ -1,4 +1,4 @@
--- The text of evidence is cut into its parts at one place alone.
+-- The text of evidence is cut into its parts in one way alone.
 use Rattle.std.proofs.Common.{◌≡◌, ◌≢◌, ℕ, zero, suc, ◌+◌, ◌-◌, ◌<◌, ◌≤◌, ◌⊎◌, inl, inr, List, [], ◌∷◌, ◌++◌, length, take, drop, get_or, map, cond, Bool, true, false, refl, sym, ap, subst, ◌∙◌, append_assoc, arith, All}
 use Rattle.std.specs.Prelude.{⊤, ◌==◌, Option, Some, None, not, position, vec_items, vec_len}
 use Rattle.std.specs.List.{flat_map, position_or_len}
@@ -56,7 +56,7 @@ signatures_before (text ∷ front) rest each ends =
 
 -- ---- as the code finds it
 
--- a test of the elements, and the same test of what they are seen as
+-- a test finds the same index among elements as a test of their views among these
 first_same : {A B : Type 0} (p : A → Bool) (q : B → Bool) (f : A → B) → ((x : A) → p x ≡ q (f x)) → (xs : List A) → position_or_len p xs ≡ position_or_len q (map f xs)
 first_same p q f same [] = refl
 first_same p q f same (x ∷ xs) =
@@ -220,7 +220,7 @@ pub record AreEvidence (keys : List Key) (name : List ℕ) (first second proof :
   pub second_of : IsOfLog keys name (lines_text second) b
   pub disagree : Disagree a b (lines_text proof)
 
--- the same, where the lines are cut as they are read
+-- evidence in lines that are cut as the code cuts them
 abbrev pub AreCutEvidence : List Key → List ℕ → List (List ℕ) → Type 0
 AreCutEvidence keys name lines =
     AreEvidence keys name (take (note_length lines) lines)
@@ -328,7 +328,7 @@ map_drop f zero xs = refl
 map_drop f (suc n) [] = refl
 map_drop f (suc n) (x ∷ xs) = map_drop f n xs
 
--- what is left of a list behind its first elements, as it is seen
+-- the rest of a list behind its first elements, as a contract sees it
 pub rest_shown : {A B : Type 0} (f : A → B) (k : ℕ) (xs : List A) → map f (take (length xs - k) (drop k xs)) ≡ drop k (map f xs)
 rest_shown f k xs = ap (map f) (take_rest xs k) ∙ map_drop f k xs
 

@@ -1,4 +1,4 @@
--- Bytes that are no signed checkpoint.
+-- Bytes that aren't a signed checkpoint.
 use Rattle.std.proofs.Common.{◌≡◌, ◌≢◌, ◌<◌, ℕ, List, [], length, refl, sym, ap, subst, ◌∙◌, arith}
 use Rattle.std.specs.Prelude.{Err, Option, Some, None}
 use Rattle.tl_note.specs.Key.{Key}
@@ -18,7 +18,7 @@ use Rattle.tl_checkpoint.proofs.OtherTexts.{no_text}
 abbrev IsNone : List ℕ → List Key → Type 0
 IsNone bytes keys = (c : Head) → IsSignedCheckpoint bytes keys c → ⊥
 
--- a note whose first wrong line is somewhere doesn't open
+-- a note with a wrong line isn't a signed checkpoint
 wrong_note : (bytes text : List ℕ) (keys : List Key) (lines : List Signature) (p : Placed) → Note bytes text lines → first_wrong keys text lines ≡ Some p → IsNone bytes keys
 wrong_note bytes text keys lines p noted wrong = λ c signed.
     let same = one_note bytes text (checkpoint_text c) lines signed.lines noted signed.noted in
@@ -26,7 +26,7 @@ wrong_note bytes text keys lines p noted wrong = λ c signed.
     subst (λ (t : List ℕ). first_wrong keys t signed.lines ≡ Some p) same.0 (subst (λ (ls : List Signature). first_wrong keys text ls ≡ Some p) same.1 wrong) in
     None-no_Some (first_wrong keys (checkpoint_text c) signed.lines) p signed.opens.sound found
 
--- nor does one of which no line counts
+-- a note of which no line counts isn't a signed checkpoint
 unknown_note : (bytes text : List ℕ) (keys : List Key) (lines : List Signature) → Note bytes text lines → counting_lines keys lines ≡ [] → IsNone bytes keys
 unknown_note bytes text keys lines noted none = λ c signed.
     let same = one_note bytes text (checkpoint_text c) lines signed.lines noted signed.noted in
@@ -39,7 +39,7 @@ other_text A bytes keys fault other known = λ c signed.
     let same = one_note bytes other.text (checkpoint_text c) other.lines signed.lines other.noted signed.noted in
     no_text A other.text c fault signed.stated same.0 other.parsed known
 
--- what doesn't open, though memory was had, is no signed checkpoint
+-- bytes that don't open aren't a signed checkpoint, unless an allocation failed
 pub not_signed : (A : Type 0) (bytes : List ℕ) (keys : List Key) (fault : OpenCheckpointFault) → OpensCheckpoint {A = A} bytes keys (Err fault) → fault ≢ OutOfMemory → IsNone bytes keys
 not_signed A bytes keys (Unopened note.Malformed) given known = λ c signed. given.0 (checkpoint_text c) signed.lines signed.noted
 not_signed A bytes keys (Unopened (note.BadName place)) given known = absurd given.0

@@ -28,7 +28,7 @@ use Rattle.tl_evidence.specs.Inner.Opening.{OpensOrNot}
 use Rattle.tl_evidence.proofs.Cuts.{AreCutEvidence, AreEvidence, cut_is_evidence, evidence_is_cut, evidence_lines, one_of_log}
 use Rattle.tl_evidence.proofs.NotSigned.{not_signed}
 
--- what is never so
+-- a fact that never holds
 never : (P : Type 0) → (P → ⊥) → IsTrue false ↔ P
 never P not = (λ t. absurd (true≢false (sym t)), λ p. absurd (not p))
 
@@ -131,7 +131,7 @@ pub for_other : (a b : Head) (lines : List (List ℕ)) → 0 < length lines → 
     → IsTrue false ↔ Disagree a b (lines_text lines)
 for_other a b lines some plain other = never (Disagree a b (lines_text lines)) (no_disagreement a b lines some plain other)
 
--- lines of which it is known that they aren't none
+-- a list that isn't empty
 pub some_lines : {A : Type 0} (lines : List (Vec ℕ A)) (r : Bool) → r ≡ (length lines == 0) → r ≡ false → 0 < length (map vec_items lines)
 some_lines [] r is not = absurd (true≢false (sym is ∙ not))
 some_lines (x ∷ lines) r is not = omega arith
@@ -206,11 +206,11 @@ all_behind P zero xs each = each
 all_behind P (suc n) [] each = each
 all_behind P (suc n) (x ∷ xs) each = all_behind P n xs (All-tail P x xs each)
 
--- what is left of lines without newlines has none
+-- the rest of lines without newlines has none either
 pub plain_rest : (lines rest proof : List (List ℕ)) (n m : ℕ) → All HasNoNewline lines → rest ≡ drop n lines → proof ≡ drop m rest → All HasNoNewline proof
 plain_rest lines rest proof n m plain rest_is proof_is =
     subst (All HasNoNewline) (sym (proof_is ∙ ap (drop m) rest_is)) (all_behind HasNoNewline m (drop n lines) (all_behind HasNoNewline n lines plain))
 
--- a text that isn't lines is no evidence
+-- a text that isn't lines isn't evidence
 pub no_text_lines : (keys : List Key) (name text : List ℕ) → ((lines : List (List ℕ)) → All HasNoNewline lines → text ≢ lines_text lines) → IsTrue false ↔ IsEvidence keys name text
 no_text_lines keys name text other = never (IsEvidence keys name text) (λ e. let found = evidence_lines keys name text e in other found.0 found.1 found.2)

@@ -12,13 +12,13 @@ use Rattle.tl_run.specs.declared.fault.RunFault.{RunFault}
 use Rattle.tl_run.specs.declared.fault.RunFault.TheVariants.{BadKey, OutOfMemory}
 use Rattle.tl_fork.specs.Evidence.{IsEvidence}
 
--- what comes of an input: it is evidence against the log, or it is refused
+-- what is printed for an input: that the log forked, if the input is evidence against it, and else a refusal
 abbrev pub ForkComes : List Key → Bytes → Bytes → Output → Type 0
 ForkComes keys name input (Prints text) = IsEvidence keys name input × (text ≡ line (codes "fork of " ++ name))
 ForkComes keys name input (PrintsRefusal text) = ¬ (IsEvidence keys name input) × (text ≡ line (codes "refused"))
 ForkComes keys name input (Fails fault) = ⊥
 
--- a run with the text of the log's verifier's key: what is no such text is refused before anything is read
+-- a run with the text of the log's verifier key: a text that isn't such a key is a fault before anything is read
 abbrev pub RunsFork : Bytes → Passage → Passage → Result (Unit {0}) RunFault → Type 0
 RunsFork text i o (Err BadKey) = IsNoKey text × IsUnread i × IsUnwritten o
 RunsFork text i o (Err OutOfMemory) = IsKeyWith text (λ k. IsSteady i × IsUnwritten o)

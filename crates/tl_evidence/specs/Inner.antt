@@ -1,3 +1,3 @@
--- Words that the contracts of private functions use.
+-- Definitions for the contracts of private functions and for proofs.
 pub mod Cutting
 pub mod Opening

@@ -1,3 +1,3 @@
--- What the check of evidence prints.
+-- The check of evidence that a log forked.
 pub mod ForkCommand
 pub mod Inner

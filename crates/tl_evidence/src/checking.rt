@@ -99,7 +99,8 @@ fn check_under<R: Read, W: Write>(
     }
 }
 
-// The same, where the one key is that of which this is the text.
+// Reads the whole input, and prints whether it is evidence against the log. The one verifier has the key with this
+// text.
 fn check_by<R: Read, W: Write>(
     alloc: Global,
     text: &str,
@@ -117,10 +118,9 @@ fn check_by<R: Read, W: Write>(
 }
 
 /// Reads the whole input, and prints `fork of NAME` if it is evidence that the log with this verifier key forked: two
-/// of its checkpoints, one after the other, and, if their sizes differ, the text of a consistency proof that leads to
-/// the larger tree from the smaller one's size, but from another root than it has (RFC 6962, section 2.1.2). Any other
-/// input is answered with `refused`, and the result is `Refused`. A text of no key is `BadKey`, before anything is
-/// read.
+/// of its checkpoints, and, if their sizes differ, the text of a consistency proof that leads to the larger tree from
+/// a tree of the smaller one's size, but with another root (RFC 6962, section 2.1.2). For any other input it prints
+/// `refused`, and returns `Refused`. `BadKey`: the text isn't a verifier key; nothing was read.
 pub fn run_check_fork<R: Read, W: Write>(
     alloc: Global,
     text: &str,

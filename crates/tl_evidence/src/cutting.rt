@@ -5,7 +5,7 @@ ghost use Rattle.tl_evidence.specs.Inner.Cutting.{has_space, note_length, signat
 
 use std::alloc::Allocator;
 
-// Returns the place of the first empty line.
+// Returns the index of the first empty line.
 fn find_empty<A: Allocator>(lines: &[Vec<u8, A>]) -> Option<usize>
     ensures { result ≡ position (λ line. vec_len line == 0) lines.now }
 {
@@ -30,7 +30,7 @@ fn has_space(line: &[u8]) -> bool
     line.contains(&b' ')
 }
 
-// Returns the place of the first line without a space.
+// Returns the index of the first line without a space.
 fn find_spaceless<A: Allocator>(lines: &[Vec<u8, A>]) -> Option<usize>
     ensures { result ≡ position (λ line. not (has_space (vec_items line))) lines.now }
 {
@@ -48,8 +48,8 @@ fn signature_length<A: Allocator>(lines: &[Vec<u8, A>]) -> usize
     }
 }
 
-/// Returns how many lines the note has that stands at the front of these: those before the first empty line, that
-/// line, and the signature lines after it.
+/// Returns how many lines the note at the front of these has: those before the first empty line, that line, and the
+/// signature lines after it.
 pub(crate) fn note_length<A: Allocator>(lines: &[Vec<u8, A>]) -> usize
     ensures length { result ≡ note_length (map vec_items lines.now) }
     ensures within { result ≤ length lines.now }

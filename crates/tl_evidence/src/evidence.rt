@@ -30,7 +30,7 @@ fn join<A: Allocator + Copy>(alloc: A, lines: &[Vec<u8, A>]) -> Result<Vec<u8, A
     Ok(bytes)
 }
 
-// Returns nothing in the place of what doesn't open, unless allocation failed.
+// Returns `None` for bytes that don't open, unless allocation failed.
 fn none_unless_memory(fault: OpenCheckpointFault) -> Result<Option<Checkpoint<Global>>, AllocError>
     ensures { IfOk result (λ o. (o ≡ None) × (fault ≢ OpenCheckpointFault.OutOfMemory)) }
 {
@@ -89,8 +89,8 @@ fn checkpoint_of(
     }
 }
 
-// Reports whether a proof is accepted and leads to the second checkpoint's tree from the first one's size, but from
-// another root.
+// Reports whether a proof is accepted and leads to the second checkpoint's tree from a tree of the first one's size
+// with another root.
 fn leads_elsewhere(
     a: &Checkpoint<Global>,
     b: &Checkpoint<Global>,
@@ -122,7 +122,7 @@ fn have_two_roots(a: &Checkpoint<Global>, b: &Checkpoint<Global>) -> bool
     a.size == b.size && a.root != b.root
 }
 
-// Reports whether a proof leads to one of two checkpoints from another root than the other's.
+// Reports whether a proof leads to the tree of one checkpoint from a tree of the other's size with another root.
 fn leads_between(
     a: &Checkpoint<Global>,
     b: &Checkpoint<Global>,
@@ -156,7 +156,7 @@ fn disagree(
     }
 }
 
-// Cuts lines after the note that stands at their front.
+// Cuts lines after the note at their front.
 fn split_note(lines: &[Vec<u8>]) -> (&[Vec<u8>], &[Vec<u8>])
     ensures note { map vec_items result.0.now
         ≡ take (note_length (map vec_items lines.now)) (map vec_items lines.now) }

@@ -7,7 +7,7 @@ use std::alloc::{AllocError, Allocator, Global};
 use tl_proof::Link;
 use tl_witness::{SaveFault, Saver};
 
-/// What was saved, and how often that failed.
+/// The links that were saved, and how often saving failed.
 #[derive(Drop)]
 pub struct Journal {
     alloc: Global,
@@ -16,7 +16,7 @@ pub struct Journal {
 }
 
 impl Journal {
-    /// A journal with nothing in it.
+    /// Creates an empty journal.
     pub fn new(alloc: Global) -> Journal {
         Journal {
             alloc,
@@ -25,12 +25,12 @@ impl Journal {
         }
     }
 
-    /// How many links were saved.
+    /// Returns how many links were saved.
     pub fn count(&self) -> usize {
         self.links.len()
     }
 
-    // One failure more.
+    // Counts a failure, and returns it.
     fn fail(&mut self) -> Result<(), SaveFault>
         ensures failed { IsErr result }
         ensures counted { (self.old.failures < self.new.failures) ⊎ (self.old.failures ≡ 2 ^ 64 - 1) }
@@ -41,7 +41,7 @@ impl Journal {
     }
 }
 
-// A copy of an origin and a link.
+// Copies an origin and a link.
 fn copied<A: Allocator>(
     alloc: Global,
     origin: &str,

@@ -1,4 +1,4 @@
-//! An entry of a log is proved to be in it, and the proof is checked without the log.
+//! Proves that an entry is in a log, and checks the proof without the log.
 
 use std::alloc::Global;
 use std::io;
@@ -6,7 +6,8 @@ use tl_hash::{Sha256Tree, leaf_hash};
 use tl_proof::{check_record, prove_record};
 use tl_store::{HashStore, tree_hash};
 
-/// Proves the second of three entries, and checks the proof for it and for another one, with the root alone.
+/// Proves that the second of three entries is in the log, and checks the proof for it and for another entry by the
+/// root alone.
 pub fn prove_an_entry(rt: &impl Print, alloc: Global) -> Result<(), anyhow::Error> {
     println!(rt; "An entry proved to be in a log:")?;
     let mut store = HashStore::new(alloc, Sha256Tree);

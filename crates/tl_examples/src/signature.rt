@@ -1,11 +1,11 @@
-//! A text is signed as a note, and opened with the key that signed it and with another.
+//! Signs a text as a note, and opens it with the key that signed it and with another.
 
 use std::alloc::Global;
 use std::io;
 use tl_key::demo_key;
 use tl_note::{Signer, Verifier, open_note, sign_note};
 
-/// Signs a text, prints the note, and opens it with the key of the right secret and of a wrong one.
+/// Signs a text, prints the note, and opens it with the key of the right secret and with that of a wrong one.
 pub fn sign_a_note(rt: &impl Print, alloc: Global) -> Result<(), anyhow::Error> {
     println!(rt; "A note:")?;
     let key = demo_key(alloc, "example.com/log", b"a secret")?;

@@ -1,4 +1,4 @@
-//! Hashes of a log are read from a source of tiles that may lie, and are checked against the root that is trusted.
+//! Reads hashes of a log from a source of tiles that may lie, and checks them against a trusted root.
 
 use std::alloc::{Allocator, Global};
 use std::io;
@@ -22,7 +22,7 @@ impl TileSource for OneTile {
     }
 }
 
-/// Reads the hash of the second entry from an honest source, and from one that changed a bit of it.
+/// Reads the hash of the second entry from an honest source, and from one that flipped a bit of it.
 pub fn read_from_a_liar(rt: &impl Print, alloc: Global) -> Result<(), anyhow::Error> {
     println!(rt; "Tiles from a source that may lie:")?;
     let cat = leaf_hash(Sha256Tree, b"a cat");

@@ -1,4 +1,4 @@
-//! A witness is asked to cosign three checkpoints of a log, the last of which forgets what the log had.
+//! Asks a witness to cosign three checkpoints of a log, the last of which drops entries that the log had.
 
 use crate::journal::Journal;
 use base64::engine::general_purpose::STANDARD;
@@ -18,7 +18,7 @@ const LOG: &str = "example.com/log";
 // The time at which the witness is asked, in seconds since the Unix epoch.
 const TIME: u64 = 1_700_000_000;
 
-// The signed checkpoint of the log at this size and root.
+// Returns the signed checkpoint of the log at this size and root.
 fn checkpoint(alloc: Global, size: u64, root: Hash) -> Result<String, anyhow::Error> {
     let text = write(
         alloc,
@@ -33,7 +33,7 @@ fn checkpoint(alloc: Global, size: u64, root: Hash) -> Result<String, anyhow::Er
     Ok(sign_note(alloc, alloc, text.as_str(), &[signer])?)
 }
 
-// The body of a request to cosign this log, which was cosigned at the old size.
+// Returns the body of a request to cosign this log. The witness cosigned the old size last.
 fn request(
     alloc: Global,
     log: &HashStore<Sha256Tree, Global>,
@@ -51,7 +51,8 @@ fn request(
     Ok(body)
 }
 
-// Requests for the checkpoint of one entry, of three with a proof, and of others that don't begin with these three.
+// Returns requests for the checkpoint of one entry, of three with a proof, and of a list that doesn't begin with
+// those three.
 fn requests(alloc: Global) -> Result<[String; 3], anyhow::Error> {
     let mut log = HashStore::new(alloc, Sha256Tree);
     log.append(b"a cat")?;
@@ -68,7 +69,7 @@ fn requests(alloc: Global) -> Result<[String; 3], anyhow::Error> {
     Ok([first, second, third])
 }
 
-/// Opens a book that trusts the log's key for the log, and asks it three times.
+/// Opens a book that trusts the log's key for the log, and sends it the three requests.
 pub fn ask_a_witness(rt: &impl Print, alloc: Global) -> Result<(), anyhow::Error> {
     println!(rt; "A witness, asked three times:")?;
     let verifier: Box<dyn Verifier> = Box::new(alloc, demo_key(alloc, LOG, b"the log's")?)?;

@@ -1,4 +1,4 @@
--- The table of a question tells one answer of an input, but where memory was refused.
+-- A question has one result for an input, unless an allocation fails.
 use Rattle.std.proofs.Common.{◌≡◌, ◌⊎◌, ℕ, List, [], ◌∷◌, ◌++◌, Option, Ok, Err, ap, arith, codes, inl, inr, subst, sym, ◌∙◌}
 use Rattle.std.proofs.lemmas.Fmt.{decimal_injective}
 use Rattle.tl_text.specs.Text.{line, number_text}
@@ -10,7 +10,7 @@ use Rattle.tl_feed.specs.Answer.{At, AnswerDecides, Answered, IsSizeLine, LinesD
 use Rattle.tl_feed.specs.Asking.{most_answer}
 use Rattle.tl_feed.specs.declared.fault.AskFault.TheVariants.{OutOfMemory}
 
--- two answers are one, or memory was refused
+-- two results are equal, or one is that an allocation failed
 abbrev pub IsOneAnswer : Answered → Answered → Type 0
 IsOneAnswer r q = (r ≡ q) ⊎ ((r ≡ Err OutOfMemory) ⊎ (q ≡ Err OutOfMemory))
 
@@ -31,7 +31,7 @@ one_lines body r q (inr (are, inl none)) (inr b) = inr (inl none)
 one_lines body r q (inr (are, inr so)) (inr (is, inl none)) = inr (inr none)
 one_lines body r q (inr (are, inr so)) (inr (is, inr same)) = inl (so ∙ sym same)
 
--- an answer that tells a size
+-- an answer that is a size
 abbrev told : ℕ → Answered
 told size = Ok (At size)
 
@@ -51,7 +51,7 @@ one_decided (Ok given) r q (inl a) (inr b) = let first = a.0 in let second = b.0
 one_decided (Ok given) r q (inr a) (inl b) = let first = a.0 in let second = b.0 in absurd (omega (arith, first, second))
 one_decided (Ok given) r q (inr a) (inr b) = one_size given.field given.body r q a.1 b.1
 
--- an input has one answer, or memory was refused
+-- an input has one answer, unless an allocation fails
 pub one_answer : (input : List ℕ) (x y : Replied) (r q : Answered)
     → Replies (200 ∷ 409 ∷ []) (codes "Content-Type") most_answer input x → AnswerDecides x r
     → Replies (200 ∷ 409 ∷ []) (codes "Content-Type") most_answer input y → AnswerDecides y q → IsOneAnswer r q

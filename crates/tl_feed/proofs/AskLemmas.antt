@@ -1,4 +1,4 @@
--- From the steps of a question to the whole.
+-- From the steps of asking a witness to the whole.
 use Rattle.std.proofs.Common.{◌≡◌, ◌⊎◌, ℕ, zero, suc, List, [], ◌∷◌, Contains, Ok, arith, codes, inl, inr, subst, sym}
 use Rattle.tl_device.specs.Device.{Passage}
 use Rattle.tl_http.specs.Post.{Asked, Given, Posts, Replied}
@@ -11,13 +11,13 @@ use Rattle.tl_feed.specs.Asking.{Asks, most_answer}
 abbrev pub request_with : List ℕ → List ℕ → List ℕ → Asked
 request_with host target bytes = record { host = host; target = target; body = bytes; statuses = 200 ∷ 409 ∷ []; field = codes "Content-Type" }
 
--- what came of a request with the body of a question
+-- the result of a request with the body of a question
 pub asks_so : (host target bytes : List ℕ) (question : Body) (i o : Passage) (reply : Replied) (r : Answered) → bytes ≡ body_text question
     → Posts (request_with host target bytes) most_answer i o reply → AnswerDecides reply r → Asks host target question i o r
 asks_so host target bytes question i o reply r same posts decides =
     inr (reply, subst (λ (b : List ℕ). Posts (request_with host target b) most_answer i o reply) same posts, decides)
 
--- the statuses of responses that are taken
+-- the statuses of responses that are accepted
 two_statuses : (s : ℕ) → Contains (200 ∷ 409 ∷ []) s → (s ≡ 200) ⊎ (s ≡ 409)
 two_statuses s (zero, within, is) = inl (sym is)
 two_statuses s (suc zero, within, is) = inr (sym is)

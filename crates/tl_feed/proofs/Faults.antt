@@ -1,4 +1,4 @@
--- What is told of a witness, by its reason.
+-- Faults found in the lines that a witness answered with.
 use Rattle.std.proofs.Common.{◌≡◌, ◌⊎◌, inl, inr, subst, sym}
 use Rattle.tl_hash.specs.Bytes.{Bytes}
 use Rattle.tl_hash.specs.declared.head.Head.{Head}
@@ -8,7 +8,7 @@ use Rattle.tl_feed.specs.Refusing.{IsFairlyTold}
 use Rattle.tl_feed.specs.declared.unasked.Unasked.{Unasked}
 use Rattle.tl_feed.specs.declared.unasked.Unasked.TheVariants.{Ask, Other}
 
--- memory ran out, or the lines are of something else
+-- a failed allocation or lines of something else may always be the fault
 pub fair_of_lines : {None : Type 0} (answers : Resource → Bytes → Type 0) (lacks : Resource → Type 0) (head : Head) (why : Unasked) → (why ≡ Ask OutOfMemory) ⊎ ((why ≡ Other) × None)
     → IsFairlyTold answers lacks head why
 fair_of_lines answers lacks head why (inl memory) = subst (IsFairlyTold answers lacks head) (sym memory) tt

@@ -9,7 +9,7 @@ use Rattle.std.proofs.lemmas.List.Elements.{filter_map-append}
 use Rattle.std.proofs.lemmas.List.Concat.{flat_map-append}
 use Rattle.tl_feed.specs.Inner.Tallying.{given, joined}
 
--- the lines of one witness more
+-- the lines with those of one witness more
 given_next : (lines : List (Option (String Global))) (i : ℕ) (line : Option (String Global)) → i < length lines → line ≡ get_or lines i line
     → given (take (i + 1) lines) ≡ given (take i lines) ++ given (line ∷ [])
 given_next lines i line within is =
@@ -24,7 +24,7 @@ none_given : (line : Option (String Global)) → is_some line ≡ false → leng
 none_given (Some own) none = absurd (cc)
 none_given None none = refl
 
--- how many there are with one that gave a line
+-- how many lines there are with a witness that gave one
 pub counted_more : (lines : List (Option (String Global))) (i : ℕ) (line : Option (String Global)) → i < length lines → line ≡ get_or lines i line
     → is_some line ≡ true → length (given (take (i + 1) lines)) ≡ length (given (take i lines)) + 1
 counted_more lines i line within is some =
@@ -33,7 +33,7 @@ counted_more lines i line within is some =
     let one = one_given line some in
     omega (arith, longer, one)
 
--- the same with one that gave none
+-- how many lines there are with a witness that gave none
 pub counted_same : (lines : List (Option (String Global))) (i : ℕ) (line : Option (String Global)) → i < length lines → line ≡ get_or lines i line
     → is_some line ≡ false → length (given (take (i + 1) lines)) ≡ length (given (take i lines))
 counted_same lines i line within is none =
@@ -42,14 +42,14 @@ counted_same lines i line within is none =
     let zero = none_given line none in
     omega (arith, longer, zero)
 
--- the text of one witness more
+-- the text with one witness more
 joined_next : (lines : List (Option (String Global))) (i : ℕ) (line : Option (String Global)) → i < length lines → line ≡ get_or lines i line
     → joined (take (i + 1) lines) ≡ joined (take i lines) ++ joined (line ∷ [])
 joined_next lines i line within is =
     ap (λ (g : List (List ℕ)). flat_map (λ (l : List ℕ). l) g) (given_next lines i line within is)
     ∙ flat_map-append (λ (l : List ℕ). l) (given (take i lines)) (given (line ∷ []))
 
--- with one that gave a line
+-- the text with a witness that gave a line
 pub joined_more : (lines : List (Option (String Global))) (i : ℕ) (line : Option (String Global)) (own : String Global) → i < length lines
     → line ≡ get_or lines i line → line ≡ Some own → joined (take (i + 1) lines) ≡ joined (take i lines) ++ string_bytes own
 joined_more lines i line own within is some =
@@ -57,7 +57,7 @@ joined_more lines i line own within is some =
     ∙ (ap (λ (one : Option (String Global)). joined (take i lines) ++ joined (one ∷ [])) some
     ∙ ap (λ (l : List ℕ). joined (take i lines) ++ l) (append-nil (string_bytes own)))
 
--- with one that gave none
+-- the text with a witness that gave none
 pub joined_same : (lines : List (Option (String Global))) (i : ℕ) (line : Option (String Global)) → i < length lines → line ≡ get_or lines i line
     → line ≡ None → joined (take (i + 1) lines) ≡ joined (take i lines)
 joined_same lines i line within is none =

@@ -1,4 +1,4 @@
--- The proof from so many of a log's first entries.
+-- The proof from a log's first entries.
 use Rattle.std.proofs.Common.{◌≡◌, ◌≤◌, ◌++◌, ◌∙◌, ℕ, List, [], ap, arith, length, sym, take}
 use Rattle.std.proofs.lemmas.List.{append-nil, take_all}
 use Rattle.sha2.specs.Sha256.{sha256}
@@ -17,7 +17,7 @@ IsMadeOver answers head old proof =
     (entries more : List Bytes) → IsLogOf answers head entries → head.size ≤ length (entries ++ more)
     → proof ≡ consistency_proof sha256 old (take head.size (entries ++ more))
 
--- it is the proof of the log's own entries
+-- that proof is the one of the log's own entries
 pub made_from : (answers : Resource → Bytes → Type 0) (head : Head) (old : ℕ) (proof : List Bytes) → old ≤ head.size → IsMadeOver answers head old proof
     → IsGrowthFrom answers head old proof
 made_from answers head old proof within made = record {
@@ -29,7 +29,7 @@ made_from answers head old proof within made = record {
       made entries [] log long ∙ ap (consistency_proof sha256 old) same;
 }
 
--- whoever has so many of the log's first entries accepts it
+-- a witness with the log's first `old` entries accepts the proof
 pub accepted_from : (answers : Resource → Bytes → Type 0) (head : Head) (old : ℕ) (proof entries : List Bytes) → IsGrowthFrom answers head old proof
     → IsLogOf answers head entries → AcceptsConsistency sha256 proof head.size head.root old (tree_hash sha256 (take old entries))
 accepted_from answers head old proof entries growth log =

@@ -1,4 +1,4 @@
--- Lines that are no cosignature, by one key or one line more.
+-- Lines that aren't cosignatures, by one key or one line more.
 use Rattle.std.proofs.Common.{◌≡◌, ◌<◌, ◌≤◌, ◌+◌, ◌∙◌, ◌∷◌, [], ℕ, zero, suc, Bool, true, false, List, All, Any, Contains, MatchBool, None, Result, Ok, Err, get_or, inl, length, map, drop, refl, ap, sym, subst, take, arith}
 use Rattle.std.specs.Prelude.{IfOk}
 use Rattle.std.specs.declared.alloc.AllocError.{AllocError}
@@ -12,7 +12,7 @@ use Rattle.tl_checkpoint.specs.Cosignature.{ChecksCosignature, IsCosignature}
 use Rattle.tl_feed.specs.Lines.{CosignsText}
 use Rattle.tl_feed.specs.Inner.Answered.{AreOthers, IsOther}
 
--- whether a line is one by one of these keys
+-- whether a line is a cosignature by one of these keys
 abbrev pub Finds : {W : Type 0} → (W → Key) → Bytes → Signature → List W → Bool → Type 0
 Finds key text line ws own =
     MatchBool own (Any (λ w. (time : ℕ) × IsCosignature text (key w) line time) ws) (All (λ w. (time : ℕ) → IsCosignature text (key w) line time → ⊥) ws)
@@ -29,7 +29,7 @@ list_is : {X : Type 0} (xs : List X) (first : X) (rest : List X) → rest ≡ dr
 list_is [] first rest left some is = absurd (omega (arith, some))
 list_is (x ∷ xs) first rest left some is = ap (λ y. y ∷ xs) (sym is) ∙ ap (λ ys. first ∷ ys) (sym left)
 
--- by the keys behind the first, by which it is none
+-- the keys behind the first decide if the line isn't a cosignature by that
 pub key_found : {W : Type 0} (key : W → Key) (text : Bytes) (line : Signature) (ws : List W) (first : W) (rest : List W) → rest ≡ drop 1 ws → 1 ≤ length ws
     → first ≡ get_or ws 0 first → ChecksCosignature text (key first) line None → (own : Result Bool AllocError) → IfOk own (Finds key text line rest)
     → IfOk own (Finds key text line ws)
@@ -37,7 +37,7 @@ key_found {W = W} key text line ws first rest left some is none (Ok own) below =
     subst (λ (all : List W). Finds key text line all own) (sym (list_is ws first rest left some is)) (key_more key text line first rest own none below)
 key_found {W = W} key text line ws first rest left some is none (Err fault) below = tt
 
--- by which key a line is one
+-- the key by which a line is a cosignature
 pub own_key : {W : Type 0} (key : W → Key) (text : Bytes) (line : Signature) (ws : List W) → Finds key text line ws true
     → (own : Key) × Contains (map key ws) own × ((time : ℕ) × IsCosignature text own line time)
 own_key {W = W} key text line [] (k, w, within, is, by) = absurd (omega (arith, within))
@@ -47,7 +47,7 @@ own_key {W = W} key text line (x ∷ ws) (suc k, w, within, is, by) =
     let (own, (place, inside, at), of) = own_key key text line ws (k, w, omega (arith, within), is, by) in
     (own, (suc place, omega (arith, inside), at), of)
 
--- by one of them it is a line of a cosignature
+-- a line that is a cosignature by one of the keys cosigns the text
 pub cosigns : {W : Type 0} (key : W → Key) (text : Bytes) (line : Signature) (ws : List W) (bytes : Bytes) → IsSignature line → bytes ≡ signature_line line
     → Finds key text line ws true → CosignsText (map key ws) text bytes
 cosigns {W = W} key text line ws bytes lawful spelled found =
@@ -57,12 +57,12 @@ cosigns {W = W} key text line ws bytes lawful spelled found =
 pub none_own : {W : Type 0} (key : W → Key) (text : Bytes) (line : Signature) (ws : List W) → Finds key text line ws false → IsOther text (map key ws) line
 none_own key text line ws none = All-map (λ k. (time : ℕ) → IsCosignature text k line time → ⊥) key ws none
 
--- one line more that is none
+-- one line more that isn't a cosignature
 pub others_more : (text : Bytes) (keys : List Key) (lines : List Signature) (i : ℕ) (line : Signature) → i < length lines → line ≡ get_or lines i line
     → IsOther text keys line → All (IsOther text keys) (take i lines) → All (IsOther text keys) (take (i + 1) lines)
 others_more text keys lines i line within is none before = All-more (IsOther text keys) lines i line within before (subst (IsOther text keys) is none)
 
--- all lines are none
+-- no line is a cosignature
 pub others_all : (text : Bytes) (keys : List Key) (bytes : Bytes) (views lines : List Signature) (i : ℕ) → lines ≡ views → AreLines bytes views → length lines ≤ i
     → All (IsOther text keys) (take i lines) → AreOthers text keys bytes
 others_all text keys bytes views lines i same are whole each =

@@ -12,22 +12,22 @@ use Rattle.tl_feed.specs.declared.question.WitnessAnswer.{WitnessAnswer}
 use Rattle.tl_feed.specs.declared.question.WitnessAnswer.TheVariants as witness
 use Rattle.tl_feed.specs.Refusal.{refusal_of}
 
--- an answer: lines of signatures, or the size that was cosigned last
+-- an answer: signature lines, or the size that the witness cosigned last
 pub data Answer : Type 0 where
   Cosigned : Bytes → Answer
   At : ℕ → Answer
 
--- what a call gives: an answer, or why there is none
+-- what a call returns: an answer, or why there is none
 abbrev pub Answered : Type 0
 Answered = Result Answer AskFault
 
--- the same without where the bytes lie in memory
+-- the result of a call as a value: bytes instead of a text in memory
 abbrev pub answered : {A : Type 0} → Result (WitnessAnswer A) AskFault → Answered
 answered (Ok (witness.Cosigned lines)) = Ok (Cosigned (string_bytes lines))
 answered (Ok (witness.At size)) = Ok (At size)
 answered (Err fault) = Err fault
 
--- the bytes are lines of signatures, 1 to 100, and nothing else (C2SP signed-note, "Format")
+-- the bytes are 1 to 100 signature lines and nothing else (C2SP signed-note, "Format")
 abbrev pub AreSignatures : Bytes → Type 0
 AreSignatures bytes = (lines : List Signature) × AreLines bytes lines × (0 < length lines)
 
@@ -35,17 +35,17 @@ AreSignatures bytes = (lines : List Signature) × AreLines bytes lines × (0 < l
 abbrev pub IsSizeLine : Bytes → ℕ → Type 0
 IsSizeLine bytes size = IsSize size × (bytes ≡ line (number_text size))
 
--- the rows of a body with status 200:
---     BadLines     it isn't lines of signatures
---     OutOfMemory  it is, and memory for their views was refused
+-- the answer in a body with status 200, by the first case that applies:
+--     BadLines     the body isn't signature lines
+--     OutOfMemory  it is, and an allocation for the parsed lines failed
 --     Cosigned     else: the body
 abbrev pub LinesDecide : Bytes → Answered → Type 0
 LinesDecide body r =
     Unless (AreSignatures body) (r ≡ Err BadLines)
     ((r ≡ Err OutOfMemory) ⊎ (r ≡ Ok (Cosigned body)))
 
--- the rows of a type and a body with status 409:
---     BadSize  the one field Content-Type isn't text/x.tlog.size, or there isn't one
+-- the answer in a type and a body with status 409, by the first case that applies:
+--     BadSize  there isn't exactly one field Content-Type, or its value isn't text/x.tlog.size
 --     BadSize  the body isn't a size and a newline
 --     At       else: that size
 abbrev pub SizeDecides : Option Bytes → Bytes → Answered → Type 0
@@ -53,7 +53,8 @@ SizeDecides kind body r =
     Unless (kind ≡ Some (codes "text/x.tlog.size")) (r ≡ Err BadSize)
     (UnlessSome (IsSizeLine body) (r ≡ Err BadSize) (λ size. r ≡ Ok (At size)))
 
--- the table of what came of the request: a response that isn't taken, or the status of one that is, and its rows
+-- the answer after a request: the refusal if it has no response that is accepted, else what the status and the body
+-- say
 abbrev pub AnswerDecides : Replied → Answered → Type 0
 AnswerDecides (Err fault) r = r ≡ Err (refusal_of fault)
 AnswerDecides (Ok reply) r =

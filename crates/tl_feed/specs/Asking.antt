@@ -1,4 +1,4 @@
--- One question to a witness over a reader and a writer.
+-- One request to a witness over a reader and a writer.
 use Rattle.std.specs.Prelude.{◌≡◌, ◌⊎◌, ℕ, [], ◌∷◌, Err, codes}
 use Rattle.tl_device.specs.Device.{Passage, IsUnread, IsUnwritten}
 use Rattle.tl_hash.specs.Bytes.{Bytes}
@@ -7,7 +7,7 @@ use Rattle.tl_witness.specs.Request.{Body, body_text}
 use Rattle.tl_feed.specs.Answer.{AnswerDecides, Answered}
 use Rattle.tl_feed.specs.declared.fault.AskFault.TheVariants.{OutOfMemory}
 
--- the request of a question: its body is sent, and of a response with status 200 or 409 the body is wanted and its type
+-- the request: its body is the question's, and of a response with status 200 or 409 the body and its type are read
 abbrev pub request_of : Bytes → Bytes → Body → Asked
 request_of host target question = record {
   host = host;
@@ -17,13 +17,13 @@ request_of host target question = record {
   field = codes "Content-Type";
 }
 
--- the most bytes of an answer's body
+-- the most bytes of a response's body
 abbrev pub most_answer : ℕ
 most_answer = 16384
 
--- the table of a question, of which the first row that applies decides; i is the reader, o the writer:
---     OutOfMemory  memory for the request was refused; nothing is written or read
---     else         its request by POST, by the table of one, of which what comes decides
+-- the result of asking a witness, by the first case that applies; i is the reader, o the writer:
+--     OutOfMemory  an allocation for the request failed; nothing is written or read
+--     else         the question is sent by POST, and the reply decides
 abbrev pub Asks : Bytes → Bytes → Body → Passage → Passage → Answered → Type 0
 Asks host target question i o r =
     ((r ≡ Err OutOfMemory) × IsUnwritten o × IsUnread i)

@@ -1,4 +1,4 @@
--- How a log goes on from so many of its first entries (RFC 6962, section 2.1.2).
+-- The proof that a log extends its first entries (RFC 6962, section 2.1.2).
 use Rattle.std.specs.Prelude.{◌≡◌, ◌≤◌, ℕ, List}
 use Rattle.sha2.specs.Sha256.{sha256}
 use Rattle.tl_hash.specs.Bytes.{Bytes}
@@ -16,23 +16,23 @@ use Rattle.tl_tile.specs.TileReader.{StandsAgainst}
 use Rattle.tl_client.specs.Faults.{after_prove}
 use Rattle.tl_client.specs.declared.fault.ClientFault.{ClientFault}
 
--- the log of this head, over tiles that the source may answer: each list of its size and root, no input of which
--- collides with a string that is hashed for such tiles
+-- the entries of the log with this head, over tiles that the source may answer: any list with its size and root, no
+-- input of which collides with a string that is hashed for such tiles
 abbrev pub IsLogOf : (Resource → Bytes → Type 0) → Head → List Bytes → Type 0
 IsLogOf answers head entries = StandsAgainst sha256 (λ t. answers (resource.Tile t)) head.size head.root sha256 entries
 
--- the proof is the one from so many of the log's first entries to all of them
+-- the proof is the consistency proof from the first `old` entries of the log to all of them
 pub record IsGrowthFrom (answers : Resource → Bytes → Type 0) (head : Head) (old : ℕ) (proof : List Bytes) : Type 0 where
   pub within : old ≤ head.size
   pub made : (entries : List Bytes) → IsLogOf answers head entries → proof ≡ consistency_proof sha256 old entries
 
--- why tiles are not read, over a source that may answer these texts and may lack these resources
+-- why a tile can't be read, from a source that may answer these texts and may lack these resources
 abbrev pub MayLackTiles : (Resource → Bytes → Type 0) → (Resource → Type 0) → Head → ReadFault → Type 0
 MayLackTiles answers lacks head fault =
     MayGive sha256 (λ t. answers (resource.Tile t)) (λ t. IsTile t → lacks (resource.Tile t)) head.size head.root fault
 
--- when that proof is not made: the old size is above the log's, or that is above 2 ^ 62; or the proof has a hash, and a
--- tile is lacking or bad, or memory was refused
+-- why that proof isn't made: the old size is above the log's, or the log's is above 2 ^ 62; or the proof has a hash,
+-- and a tile is missing or bad, or an allocation failed
 abbrev pub RefusesGrowthFrom : (Resource → Bytes → Type 0) → (Resource → Type 0) → Head → ℕ → ClientFault → Type 0
 RefusesGrowthFrom answers lacks head old fault =
     (why : ProveFault) × (fault ≡ after_prove why)

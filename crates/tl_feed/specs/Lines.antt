@@ -15,7 +15,7 @@ pub record CosignsText (keys : List Key) (text line : Bytes) : Type 0 where
   pub time : ℕ
   pub valid : IsCosignature text key signature time
 
--- by it one of these keys cosigns the text of this note
+-- by this line one of these keys cosigns the text of this note
 pub record CosignsNote (keys : List Key) (note line : Bytes) : Type 0 where
   pub text : Bytes
   pub lines : List Signature

@@ -6,7 +6,7 @@ use Rattle.tl_note.specs.Key.{Key}
 use Rattle.tl_checkpoint.specs.Checkpoint as checkpoint
 use Rattle.tl_checkpoint.specs.OpenCheckpoint.{IsSignedCheckpoint}
 
--- the bytes are a note that opens under these keys: of the checkpoint of the log with this name, of this size and root
+-- the bytes are a note that opens under these keys, with the checkpoint of the log with this name, size and root
 pub record IsSignedBy (origin : Bytes) (keys : List Key) (note : Bytes) (head : Head) : Type 0 where
   pub checkpoint : checkpoint.Head
   pub signed : IsSignedCheckpoint note keys checkpoint

@@ -7,7 +7,7 @@ use Rattle.tl_feed.specs.Growing.{RefusesGrowthFrom}
 use Rattle.tl_feed.specs.declared.unasked.Unasked.{Unasked}
 use Rattle.tl_feed.specs.declared.unasked.Unasked.TheVariants.{Ask, Device, Growth, Other, Restless}
 
--- it can't be reached, or its answer is none: what who asks it may tell
+-- a fault that asking a witness may have: it can't be reached, or its answer is a refusal or can't be read
 abbrev pub IsOfAsking : Unasked → Type 0
 IsOfAsking (Device fault) = Unit {0}
 IsOfAsking (Ask fault) = Unit {0}
@@ -15,8 +15,8 @@ IsOfAsking (Growth fault) = ⊥
 IsOfAsking Restless = ⊥
 IsOfAsking Other = ⊥
 
--- no proof to the checkpoint of this head can be made, from a size that it was known to have or told; else what
--- it told is the reason
+-- `Growth` is a fault only if the proof to this head can't be made, from a size that the witness was known to have or
+-- answered with; any other fault may come
 abbrev pub IsFairlyTold : (Resource → Bytes → Type 0) → (Resource → Type 0) → Head → Unasked → Type 0
 IsFairlyTold answers lacks head (Device fault) = Unit {0}
 IsFairlyTold answers lacks head (Ask fault) = Unit {0}

@@ -1,4 +1,4 @@
-//! One question to a witness, and its answer.
+//! One request to a witness, and its answer.
 
 ghost use Rattle.tl_device.specs.Device.{passage};
 ghost use Rattle.tl_feed.specs.Answer.{answered};
@@ -14,12 +14,13 @@ use std::io::{Read, Write};
 use tl_device::Counted;
 use tl_http::{Post, post};
 
-// The most bytes of an answer's body.
+// The most bytes of a response's body.
 const MOST_ANSWER: usize = 16_384;
 
-/// Asks a witness to cosign a checkpoint: one POST request of the question to a target of its host, and what it
-/// answers, in at most 16,384 bytes (C2SP tlog-witness, "add-checkpoint"). `AskFault` says why it neither cosigned nor
-/// told a size. No signature is verified, and nothing that comes is trusted. The connection is of no use then.
+/// Sends a witness one add-checkpoint request, a POST to `target` of `host`, and returns what it answers (C2SP
+/// tlog-witness, "add-checkpoint"). At most 16,384 bytes of a response's body are read. `AskFault` says why the
+/// witness neither cosigned nor gave the size that it has. No signature is verified: nothing that comes is trusted.
+/// The connection can't be used again.
 pub fn ask_witness<A: Allocator + Copy, I: Read, O: Write>(
     alloc: A,
     reader: &mut Counted<I>,

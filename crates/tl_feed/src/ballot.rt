@@ -1,4 +1,4 @@
-//! What a thread that proposes checkpoints shares with those that ask witnesses, one each.
+//! The state shared by the thread that proposes checkpoints and the threads that ask witnesses, one each.
 
 use crate::tally::{BallotEvent, Round, Tally};
 use crate::unasked::Unasked;
@@ -7,22 +7,22 @@ use std::sync::atomic::{AtomicU64, Ordering};
 use std::sync::{Arc, Condvar, Mutex, Wait};
 use std::time::{Clock, Duration};
 
-/// Rounds in which witnesses are asked to cosign a note, one round at a time. A thread for each witness asks
-/// (`ask_in_rounds`), and one proposes.
+/// Rounds in which witnesses are asked to cosign a note, one round at a time. One thread proposes, and a thread for
+/// each witness asks (`ask_in_rounds`).
 #[derive(Drop)]
 pub struct Ballot {
     alloc: Global,
     tally: Mutex<Tally>,
     changed: Condvar,
-    // How often who asks was urged.
+    // How often the askers were urged.
     urged: AtomicU64,
 }
 
-// For how many seconds who pauses doesn't look whether it was urged.
+// For how many seconds an asker that pauses doesn't check whether it was urged.
 const PAUSE: u64 = 1;
 
 impl Ballot {
-    /// A ballot of so many witnesses, before its first round. It fails only where a growth was refused.
+    /// Creates a ballot for this many witnesses, before its first round. It fails only when allocation fails.
     pub fn new(alloc: Global, witnesses: usize) -> Result<Ballot, AllocError> {
         let tally = Mutex::new(Tally::new(alloc, witnesses)?);
         Ok(Ballot {
@@ -33,18 +33,19 @@ impl Ballot {
         })
     }
 
-    /// Has those that pause ask again within a second, since something waits for the round that is open.
+    /// Makes askers that pause ask again within a second, because something waits for the open round.
     pub fn urge(&self) {
         self.urged.fetch_add(1, Ordering::SeqCst);
     }
 
-    /// How often who asks was urged.
+    /// Returns how often the askers were urged.
     pub(crate) fn urged(&self) -> u64 {
         self.urged.load(Ordering::SeqCst)
     }
 
-    /// Opens a new round, of this note: its number. The lines of the last one are forgotten, and those that ask begin
-    /// with it. It fails only where memory for the note was refused. It may wait.
+    /// Opens a new round for this note, and returns its number. The lines of the last round are forgotten, and the
+    /// askers begin with the new one. It fails only when an allocation for the note fails. It may wait for other
+    /// threads.
     pub fn propose<R: Wait>(&self, rt: &R, note: &str) -> Result<u64, AllocError> {
         let note = Arc::new(self.alloc, String::from_str(self.alloc, note)?)?;
         let number = {
@@ -55,9 +56,9 @@ impl Ballot {
         Ok(number)
     }
 
-    /// Waits until there is something to tell, and tells it: first, in order, which witness gave no line and why, each
-    /// once; then that so many gave one of the round that is open, which is closed then, so that nobody is asked about
-    /// it any more. It fails only where memory for the lines was refused. It may wait.
+    /// Waits for an event, and returns it: first, in order, which witness gave no line and why, each once; then that
+    /// `need` witnesses gave a line in the open round, which is closed with that, so no witness is asked about it any
+    /// more. It fails only when an allocation for the lines fails. It may wait for other threads.
     pub fn wait<R: Wait>(&self, rt: &R, need: usize) -> Result<BallotEvent, AllocError> {
         let event = {
             let tally = self.tally.lock(rt);
@@ -70,7 +71,8 @@ impl Ballot {
         event
     }
 
-    /// Ends the ballot: those that ask end, also where they pause, and who waits is told so. It may wait.
+    /// Ends the ballot: the askers end, even those that pause, and `wait` returns `Ended`. It may wait for other
+    /// threads.
     pub fn end<R: Wait>(&self, rt: &R) {
         {
             let mut tally = self.tally.lock(rt);
@@ -79,8 +81,8 @@ impl Ballot {
         self.changed.notify_all();
     }
 
-    /// Waits for a round of which the witness at this place gave no line, with this number or a later one. None once
-    /// the ballot has ended. It may wait.
+    /// Waits for a round with this number or a later one in which the witness at this place gave no line. Returns
+    /// `None` once the ballot has ended. It may wait for other threads.
     pub(crate) fn next<R: Wait>(&self, rt: &R, place: usize, after: u64) -> Option<Round> {
         let tally = self.tally.lock(rt);
         let tally = self
@@ -89,8 +91,8 @@ impl Ballot {
         tally.round_for(place, after)
     }
 
-    /// Gives the line of the witness at this place. It counts only where the round with this number is still open, and
-    /// once. It may wait.
+    /// Records the line of the witness at this place. It counts only if the round with this number is still open and
+    /// the witness gave no line before. It may wait for other threads.
     pub(crate) fn put_line<R: Wait>(&self, rt: &R, place: usize, number: u64, line: String) {
         {
             let mut tally = self.tally.lock(rt);
@@ -99,7 +101,8 @@ impl Ballot {
         self.changed.notify_all();
     }
 
-    /// Tells why the witness at this place gave no line. Of what nobody waited for 64 are kept. It may wait.
+    /// Records why the witness at this place gave no line. At most 64 of these are kept. It may wait for other
+    /// threads.
     pub(crate) fn put_unasked<R: Wait>(&self, rt: &R, place: usize, why: Unasked) {
         {
             let mut tally = self.tally.lock(rt);
@@ -108,7 +111,8 @@ impl Ballot {
         self.changed.notify_all();
     }
 
-    // Waits a second, or until the round with this number is closed, or the ballot has ended: whether neither is so.
+    // Waits a second, or until the round with this number is closed or the ballot has ended. Reports whether neither
+    // is so.
     fn pause_once<R: Wait + Clock>(&self, rt: &R, number: u64) -> bool {
         let (tally, time) = (self.tally.lock(rt), Duration::from_secs(PAUSE));
         let (tally, _) = self
@@ -117,8 +121,9 @@ impl Ballot {
         tally.stays(number)
     }
 
-    /// Waits so many seconds, or until the round with this number is closed, or the ballot has ended, or, after a
-    /// second, who asks was urged once more than so often: whether the ballot goes on. It may wait.
+    /// Waits this many seconds, or until the round with this number is closed, until the ballot has ended, or,
+    /// checked each second, until the askers were urged again since the count `urged`. Reports whether the ballot
+    /// goes on.
     pub(crate) fn pause<R: Wait + Clock>(
         &self,
         rt: &R,

@@ -1,16 +1,17 @@
-//! A witness that gave no line: when it is asked again, and when it is told.
+//! When a witness that gave no line is asked again, and which failures are reported.
 
 ghost use Rattle.std.specs.Prelude.{◌≡◌, ◌↔◌, ◌*◌, IsTrue, min};
 ghost use Rattle.tl_feed.specs.Inner.Pausing.{IsTold, pause_after};
 
 use crate::unasked::Unasked;
 
-// How many seconds pass before a witness is asked again that gave no line: at first, and at most.
+// How many seconds pass before a witness that gave no line is asked again: at first, and at most.
 const FIRST_PAUSE: u64 = 1;
 
 const MOST_PAUSE: u64 = 60;
 
-/// Why a witness gave no line, in which round, and how many seconds pass before it is asked again.
+/// A witness's failure to give a line: its round, its reason, and how many seconds pass before the witness is asked
+/// again.
 #[derive(Clone, Copy)]
 pub(crate) struct Failure {
     pub(crate) round: u64,
@@ -18,14 +19,14 @@ pub(crate) struct Failure {
     pub(crate) pause: u64,
 }
 
-// How many seconds pass after so many.
+// Returns the pause after one of this many seconds.
 fn next_pause(pause: u64) -> u64
     ensures { result ≡ min (2 * pause) 60 }
 {
     pause.saturating_mul(2).min(MOST_PAUSE)
 }
 
-/// The failure in this round, after the last one in a row. In another round the pauses begin anew.
+/// Returns the failure in this round that follows the last one in a row. In another round the pauses begin anew.
 pub(crate) fn next_failure(last: Option<Failure>, round: u64, why: Unasked) -> Failure
     ensures { result ≡ record { round = round; why = why; pause = pause_after last round } }
 {
@@ -36,7 +37,7 @@ pub(crate) fn next_failure(last: Option<Failure>, round: u64, why: Unasked) -> F
     Failure { round, why, pause }
 }
 
-/// Whether a failure is told, after the last one in a row.
+/// Reports whether a failure is reported, given the last one in a row.
 pub(crate) fn is_told(last: Option<Failure>, failure: Failure) -> bool
     ensures { IsTrue result ↔ IsTold ⟦<Unasked as PartialEq>⟧.eq last failure }
 {

@@ -1,4 +1,4 @@
-//! Why a witness neither cosigned nor told a size.
+//! Why a witness neither cosigned nor gave a size.
 
 ghost use Rattle.std.specs.Prelude.{◌≡◌};
 ghost use Rattle.tl_feed.specs.declared.fault.AskFault.TheVariants as faults;
@@ -7,13 +7,13 @@ use std::alloc::AllocError;
 use thiserror::Error;
 use tl_http::HttpFault;
 
-/// Why a witness neither cosigned nor told a size (C2SP tlog-witness, "add-checkpoint").
+/// Why a witness neither cosigned nor gave the size that it has (C2SP tlog-witness, "add-checkpoint").
 #[derive(Clone, Copy, Debug, PartialEq, Eq, Error)]
 pub enum AskFault {
-    /// The witness takes the request for malformed (400).
+    /// The witness calls the request malformed (400).
     #[error("the witness takes the request for malformed")]
     Malformed,
-    /// No signature of the checkpoint is by a key that the witness trusts for the log (403).
+    /// The checkpoint isn't signed by a key that the witness trusts for the log (403).
     #[error("the witness trusts no key that signed the checkpoint")]
     Untrusted,
     /// The witness doesn't know the log (404).
@@ -22,17 +22,18 @@ pub enum AskFault {
     /// The witness doesn't accept the proof (422).
     #[error("the witness doesn't accept the proof")]
     Unproved,
-    /// There is no response that is taken, for another reason, such as a body of more than 16,384 bytes.
+    /// The request failed, or its response isn't accepted, for another reason. A body of more than 16,384 bytes is
+    /// one.
     #[error("{0}")]
     Get(HttpFault),
-    /// The body with status 200 isn't lines of signatures, 1 to 100.
+    /// The body of a response with status 200 isn't 1 to 100 signature lines.
     #[error("the answer of the witness isn't lines of signatures")]
     BadLines,
-    /// The response with status 409 hasn't the type text/x.tlog.size, in one field, or its body isn't a decimal number
-    /// below 2^63 and a newline.
+    /// A response with status 409 doesn't have one field Content-Type with the value text/x.tlog.size, or its body
+    /// isn't a decimal number below 2^63 and a newline.
     #[error("the witness told no size")]
     BadSize,
-    /// Memory for the request, for the response or for the views of its lines was refused.
+    /// Memory ran out for the request, the response or the parsed lines.
     #[error("out of memory")]
     OutOfMemory,
 }

@@ -1,4 +1,4 @@
-//! How a log goes on from so many of its first entries.
+//! The proof that a log extends its first entries.
 
 ghost use Rattle.std.specs.Prelude.{IfErr, IfOk};
 ghost use Rattle.tl_feed.specs.Growing.{IsGrowthFrom, RefusesGrowthFrom};
@@ -9,9 +9,10 @@ use tl_hash::{Hash, Sha256Tree};
 use tl_proof::prove_tree;
 use tl_tile::TileHashReader;
 
-/// The consistency proof with which the log of this head goes on from so many of its first entries (RFC 6962, section
-/// 2.1.2), from tiles that the source has, each checked against the head. No old root is known or needed. `Range`: the
-/// log has fewer entries, or more than 2^62. `Unavailable`: the source lacks a tile that the proof needs.
+/// Returns the consistency proof from the first `old` entries of a log to the log with this head (RFC 6962, section
+/// 2.1.2). It is made from tiles that the source has, each checked against the head; the old root isn't needed.
+/// `Range`: the log has fewer entries, or more than 2^62. `Unavailable`: the source lacks a tile that the proof
+/// needs.
 pub fn growth_from<S: ResourceSource, A: Allocator + Copy>(
     alloc: A,
     source: &S,

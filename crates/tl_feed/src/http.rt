@@ -16,25 +16,25 @@ use tl_device::{Counted, DeviceFault, Timed};
 use tl_http::HttpFault;
 use tl_source::{Url, connect};
 
-// Where a witness is asked under its address (C2SP tlog-witness, "add-checkpoint").
+// The path under a witness's address to which requests are posted (C2SP tlog-witness, "add-checkpoint").
 const TARGET: &str = "/add-checkpoint";
 
-/// A witness at an address (C2SP tlog-witness, "add-checkpoint"), asked by a connection of its own each time, which has
-/// to end in time.
+/// A witness at an address (C2SP tlog-witness, "add-checkpoint"). Each request has a connection of its own and a time
+/// limit.
 #[derive(Drop)]
 pub struct HttpWitness<'w, H> {
-    /// What opens connections.
+    /// Opens connections.
     pub rt: &'w H,
-    /// What memory is taken from.
+    /// The allocator.
     pub alloc: Global,
     /// The witness's address.
     pub url: Url<'w>,
-    /// The most time that an answer takes, but for the look-up of the host's name.
+    /// The most time that a request takes, apart from looking up the host's name.
     pub limit: Duration,
 }
 
 impl<H: Net<Stream = TcpStream> + Clock> HttpWitness<'_, H> {
-    // The target under the witness's address.
+    // Returns the target under the witness's address.
     fn target(&self) -> Result<String, AllocError> {
         let front = self.url.prefix.strip_suffix('/').unwrap_or(self.url.prefix);
         let mut target = String::from_str(self.alloc, front)?;
@@ -42,7 +42,7 @@ impl<H: Net<Stream = TcpStream> + Clock> HttpWitness<'_, H> {
         Ok(target)
     }
 
-    // What it answers.
+    // Asks the witness, and returns its answer.
     fn answer(&self, question: &Question<'_>) -> Result<WitnessAnswer<Global>, Unasked>
         ensures { IfErr result IsOfAsking }
     {
@@ -66,7 +66,7 @@ impl<H: Net<Stream = TcpStream> + Clock> HttpWitness<'_, H> {
         }
     }
 
-    // Why it gave no answer, that was asked then.
+    // Returns why the witness, asked at `start`, gave no answer.
     fn why_none(&self, start: &Instant, fault: AskFault) -> Unasked
         ensures { IsOfAsking result }
     {

@@ -1,4 +1,4 @@
-//! That an honest witness accepts what it is asked.
+//! An honest witness accepts what it is asked.
 
 ghost use Rattle.std.specs.Prelude.{ℕ, List, take};
 ghost use Rattle.sha2.specs.Sha256.{sha256};
@@ -10,7 +10,7 @@ ghost use Rattle.tl_proof.specs.Acceptance.{AcceptsConsistency};
 
 use tl_client::ResourceSource;
 
-/// A witness that has so many of the first entries of a log, by their root, accepts the proof that it is asked with
+/// States that a witness with the root of a log's first `old` entries accepts the proof that it is asked with, made
 /// over tiles of this source (RFC 6962, section 2.1.2). It computes nothing: its contract is the law.
 pub fn honest_growth_is_accepted<S: ResourceSource>(_source: &S)
     ensures { (head : Head) (old : ℕ) (proof entries : List Bytes)

@@ -1,25 +1,51 @@
-//! Asking witnesses to cosign what a log proposes (C2SP tlog-witness, "add-checkpoint"; tlog-cosignature).
+//! Asks witnesses to cosign the checkpoints of a log (C2SP tlog-witness, "add-checkpoint"; tlog-cosignature).
 //!
-//! A witness cosigns a checkpoint only if it is given a proof that the checkpoint extends the one that it cosigned last.
-//! `ask_witness` is one request: the size that the witness is thought to have cosigned, the proof from there, and the
-//! signed checkpoint. Its answer is lines of cosignatures, or the size that it has really cosigned.
+//! A witness signs a log's checkpoint only if the log has grown from the one that it signed before. So a request
+//! carries three things: the size that the witness cosigned last, a consistency proof from that size to the
+//! checkpoint's, and the signed checkpoint. The witness answers with a cosignature, or with status 409 and the size
+//! that it has, from which the caller proves again.
 //!
-//! ```
+//! `ask_witness` sends one such request over a reader and a writer, and returns a `WitnessAnswer`. Its signature
+//! lines are unverified: append them to the note, and open it with the witness's key (`tl_note::open_note`).
+//! `AskFault` has a variant for each status by which a witness refuses. `question_bytes` returns the body of the
+//! request alone.
+//!
+//! ```rust
+//! // `stream` is a connection to the witness; `proof` leads from size 12 to the size of the checkpoint in `note`.
+//! let mut reader = Counted::new(&stream);
+//! let mut writer = Counted::new(&stream);
 //! let question = Question { old: 12, proof: &proof, note: &note };
 //! match ask_witness(alloc, &mut reader, &mut writer, "witness.example", "/add-checkpoint", &question) {
-//!     Ok(WitnessAnswer::Cosigned(lines)) => {} // lines of signatures, none of them verified yet
-//!     Ok(WitnessAnswer::At(size)) => {}        // it cosigned this size last: the next proof starts there
+//!     Ok(WitnessAnswer::Cosigned(lines)) => {} // signature lines, none of them verified yet
+//!     Ok(WitnessAnswer::At(size)) => {}        // the witness has this size: ask again with a proof from there
+//!     Err(AskFault::Untrusted) => {}           // 403: the witness doesn't trust the key that signed `note`
 //!     Err(_) => {}                             // why it didn't cosign
 //! }
 //! ```
 //!
-//! `line_of` goes on until the witness has answered for good: it makes the proofs, and verifies the line that comes. Several
-//! witnesses are asked side by side, a thread each (`ask_in_rounds`), about what is put before them (`Ballot`).
+//! A witness cosigns a checkpoint after it has seen a proof that the log only grew since the checkpoint that it
+//! cosigned before. `line_of` asks one witness: it makes the consistency proof from the size that the witness has,
+//! over tiles of a source, asks, asks again if the witness answers with another size, and returns the line with its
+//! cosignature. The line is checked against the witness's keys. `HttpWitness` asks over HTTP; any other `AsksWitness`
+//! will do.
 //!
-//! ```
-//! let line = line_of(alloc, &source, &proposed, &mut known, &mut asker, &witness)?; // it cosigned this checkpoint
-//! let number = ballot.propose(rt, note)?; // the threads that are in `ask_in_rounds` ask
-//! let event = ballot.wait(rt, 2)?; // two of the witnesses cosigned it, or one gave no line
+//! A log that needs cosignatures of several witnesses asks them side by side. A `Ballot` has one round at a time, for
+//! one note. A thread for each witness runs `ask_in_rounds`, and one thread proposes a note and waits for events:
+//! that a witness gave no line, and why, or that enough lines are there.
+//!
+//! ```rust
+//! let proposed = Proposed { origin: "example.com/log", log: &log, note, head: &head };
+//! let mut asker = HttpWitness { rt, alloc, url, limit };
+//! let mut known = 0; // the size that the witness cosigned last, as far as the caller knows
+//! let line = line_of(alloc, &source, &proposed, &mut known, &mut asker, &witness)?;
+//!
+//! let ballot = Ballot::new(alloc, witnesses.len())?; // shared with the threads that are in `ask_in_rounds`
+//! ballot.propose(rt, note)?;
+//! match ballot.wait(rt, 2)? {
+//!     BallotEvent::Enough(lines) => {}       // two witnesses cosigned: append these lines to the note
+//!     BallotEvent::Unasked(place, why) => {} // the witness at this place gave no line: wait again
+//!     BallotEvent::Ended => {}               // another thread called `ballot.end(rt)`
+//! }
 //! ```
 #![tactic(auto)]
 

@@ -1,4 +1,4 @@
-//! Asking one witness about what a log proposes.
+//! Asking one witness to cosign a checkpoint.
 
 ghost use Rattle.std.specs.Prelude.{◌≡◌, ◌⊎◌, ℕ, All, Any, IfErr, IfOk, MatchBool, OnOk, map, string_bytes};
 ghost use Rattle.tl_checkpoint.specs.Cosignature.{ChecksCosignature, IsCosignature};
@@ -18,10 +18,10 @@ use tl_checkpoint::check_cosignature;
 use tl_client::ResourceSource;
 use tl_note::{NoteFault, SigView, Verifier, parse_note, parse_signatures};
 
-// How often a witness is asked that tells of another size each time.
+// How often a witness is asked, at most, if it answers with another size each time.
 const MOST_TRIES: u32 = 4;
 
-// The lines that a witness answers with, which is asked with the proof from the size that it tells.
+// Asks a witness with the proof from the size that it has, and returns the lines that it answers with.
 fn lines_of<S: ResourceSource, Q: AsksWitness>(
     alloc: Global,
     source: &S,
@@ -53,7 +53,7 @@ fn lines_of<S: ResourceSource, Q: AsksWitness>(
     Err(Unasked::Restless)
 }
 
-// The time of a line, where it is a cosignature of this text by the witness.
+// Returns the time of a line if the line is the witness's cosignature of this text.
 fn time_by(
     alloc: Global,
     text: &str,
@@ -65,7 +65,7 @@ fn time_by(
     check_cosignature(alloc, text, line, &**witness)
 }
 
-// Whether a line is a cosignature of this text by one of these keys.
+// Reports whether a line is a cosignature of this text by one of these keys.
 fn is_own(
     alloc: Global,
     text: &str,
@@ -85,7 +85,7 @@ fn is_own(
     is_own(alloc, text, line, rest)
 }
 
-// A line, as it stands in a note.
+// Returns a line as it stands in a note.
 fn text_of(alloc: Global, line: &SigView<'_>) -> Result<String, AllocError>
     ensures { IfOk result (λ text. string_bytes text ≡ signature_line line.now) }
 {
@@ -94,7 +94,7 @@ fn text_of(alloc: Global, line: &SigView<'_>) -> Result<String, AllocError>
     Ok(text)
 }
 
-// The first of these lines by which one of the keys cosigned this text, as it stands in a note.
+// Returns the first of these lines by which one of the keys cosigned this text, as it stands in a note.
 fn own_line(
     alloc: Global,
     text: &str,
@@ -119,10 +119,10 @@ fn own_line(
     Err(Unasked::Other)
 }
 
-/// The line by which the witness with these keys cosigns the checkpoint (C2SP tlog-cosignature), asked with the proof
-/// from the size that it is known to have, and again from each size that it tells, four times at most. `known` is then
-/// the size that it told last, or that of the checkpoint. `Other`: no line that it answers is of this checkpoint and by
-/// one of its keys.
+/// Asks a witness to cosign a checkpoint, and returns the line by which one of its keys cosigns it (C2SP
+/// tlog-cosignature). It is asked with the proof from size `known`, and again from each size that it answers with, at
+/// most four times. On success `known` is the checkpoint's size; else it is the size that the witness answered with
+/// last, if any. `Other`: no line that it answers with is of this checkpoint and by one of its keys.
 pub fn line_of<S: ResourceSource, Q: AsksWitness>(
     alloc: Global,
     source: &S,

@@ -1,4 +1,4 @@
-//! A checkpoint that a log proposes, and who asks a witness about it.
+//! A checkpoint that a log proposes, and what asks a witness about it.
 
 use crate::question::{Question, WitnessAnswer};
 use crate::unasked::Unasked;
@@ -6,7 +6,7 @@ use std::alloc::Global;
 use tl_client::{Head, ResourceSource};
 use tl_note::Verifier;
 
-/// The name and the keys by which a log's checkpoints are known (C2SP tlog-checkpoint).
+/// The name and the keys of a log, under which its checkpoints open (C2SP tlog-checkpoint).
 #[derive(Drop)]
 pub struct LogKeys<'p> {
     /// The log's name.
@@ -15,7 +15,7 @@ pub struct LogKeys<'p> {
     pub keys: &'p [Box<dyn Verifier>],
 }
 
-/// A checkpoint that a log proposes: the log's name and keys, the signed note, and the size and root that it states.
+/// A checkpoint that a log proposes to witnesses.
 #[derive(Drop)]
 pub struct Proposed<'p> {
     /// The log's name.
@@ -24,19 +24,19 @@ pub struct Proposed<'p> {
     pub log: &'p [Box<dyn Verifier>],
     /// The signed note.
     pub note: &'p str,
-    /// The size and the root that it states.
+    /// The size and the root that the note states.
     pub head: &'p Head,
 }
 
-/// Who asks one witness. Nothing is known of what it answers: it may lie. A fault is `Device` or `Ask`.
+/// Asks one witness. Its answers are untrusted. Its faults are `Device` or `Ask`.
 pub trait AsksWitness {
     ghost use Rattle.std.specs.Prelude.{IfErr, map};
     ghost use Rattle.tl_feed.specs.Growing.{IsGrowthFrom};
     ghost use Rattle.tl_feed.specs.Proposing.{IsSignedBy};
     ghost use Rattle.tl_feed.specs.Refusing.{IsOfAsking};
 
-    /// What it answers. It is only ever asked about a note that the log signed, with the proof from the old size to
-    /// that of its head.
+    /// Returns the witness's answer. It is only ever called with a note that the log signed, and with the proof from
+    /// the old size to that of the note's head.
     fn ask<S: ResourceSource>(
         &mut self,
         source: &S,

@@ -1,4 +1,4 @@
-//! The answer of a witness, read.
+//! Reading a witness's answer from its response.
 
 ghost use Rattle.std.specs.Prelude.{◌≡◌, ◌⊎◌, ◌↔◌, ℕ, IsTrue, IfOk, MatchOption, OnErr, Ok, Some, codes};
 ghost use Rattle.tl_feed.specs.Answer.{AnswerDecides, AreSignatures, IsSizeLine, LinesDecide, SizeDecides, answered};
@@ -12,7 +12,7 @@ use tl_http::Reply;
 use tl_note::{NoteFault, parse_signatures};
 use tl_text::{parse_size, split_line};
 
-// Whether a text is lines of signatures, one at least.
+// Reports whether a text is signature lines, at least one.
 fn are_signatures<A: Allocator>(alloc: A, text: &str) -> Result<bool, AllocError>
     ensures told { IfOk result (λ are. IsTrue are ↔ AreSignatures text.now) }
     ensures refused { OnErr result (AreSignatures text.now) }
@@ -27,7 +27,7 @@ fn are_signatures<A: Allocator>(alloc: A, text: &str) -> Result<bool, AllocError
     }
 }
 
-// What the body of a response with status 200 answers.
+// Returns the signature lines in the body of a response with status 200.
 fn read_lines<A: Allocator + Copy>(alloc: A, body: Vec<u8, A>) -> Result<WitnessAnswer<A>, AskFault>
     ensures { LinesDecide body.items (answered result) }
 {
@@ -41,7 +41,7 @@ fn read_lines<A: Allocator + Copy>(alloc: A, body: Vec<u8, A>) -> Result<Witness
     }
 }
 
-// The size that a body is, with a newline behind it.
+// Returns the size that a body writes in decimal with a newline behind it. `None` if the body is anything else.
 fn size_in(body: &[u8]) -> Option<u64>
     ensures { MatchOption result ((n : ℕ) → ¬ (IsSizeLine body.now n)) (IsSizeLine body.now) }
 {
@@ -57,7 +57,7 @@ fn size_in(body: &[u8]) -> Option<u64>
     parse_size(digits)
 }
 
-// Whether a value is the type of a size.
+// Reports whether the value of Content-Type is that of a size.
 fn is_size_type<A: Allocator>(kind: &Option<Vec<u8, A>>) -> bool
     ensures { IsTrue result ↔ (value_bytes kind.now ≡ Some (codes "text/x.tlog.size")) }
 {
@@ -67,7 +67,7 @@ fn is_size_type<A: Allocator>(kind: &Option<Vec<u8, A>>) -> bool
     }
 }
 
-// What the type and the body of a response with status 409 answer.
+// Returns the size in a response with status 409, from its type and its body.
 fn read_size<A: Allocator>(
     kind: &Option<Vec<u8, A>>,
     body: &[u8],
@@ -83,7 +83,7 @@ fn read_size<A: Allocator>(
     }
 }
 
-/// What a response with status 200 or 409 answers.
+/// Returns the answer in a response with status 200 or 409.
 pub(crate) fn read_answer<A: Allocator + Copy>(
     alloc: A,
     reply: Reply<A>,

@@ -16,7 +16,8 @@ use tl_checkpoint::{OpenCheckpointFault, open_checkpoint};
 use tl_client::{Head, ResourceSource};
 use tl_note::Verifier;
 
-// The line by which a witness cosigns a note, where it is of the log. None where it isn't, so that nobody is asked.
+// Returns the line by which a witness cosigns a note, or `None` if the note isn't the log's, so that no witness is
+// asked.
 fn line_by<S: ResourceSource, Q: AsksWitness>(
     alloc: Global,
     source: &S,
@@ -53,11 +54,10 @@ fn line_by<S: ResourceSource, Q: AsksWitness>(
     }
 }
 
-/// Asks the witness at this place, which has these keys, in each round of the ballot for the line by which it cosigns
-/// the note, until the ballot ends. After a fault it is asked again: once another round opens, or 1 second later, 2, 4,
-/// up to 60, as long as that round is open, or a second later if the ballot is urged. Who waits is told the first fault
-/// of those in a row for one reason, and each of a round that stays open. A note that the log didn't sign is passed
-/// over. It may wait.
+/// Asks the witness at this place for the line by which one of its keys cosigns the note, in each round until the
+/// ballot ends. After a fault it asks again in the next round, or after 1 second, then 2, 4, up to 60, or sooner if
+/// the ballot is urged. It puts a fault into the ballot unless the last one in a row was in an earlier round and for
+/// the same reason. It skips a note that the log didn't sign. It may wait.
 pub fn ask_in_rounds<R: Wait + Clock, S: ResourceSource, Q: AsksWitness>(
     rt: &R,
     alloc: Global,

@@ -5,8 +5,8 @@ use tl_archive::Shelf;
 use tl_client::ResourceSource;
 use tl_tile::{Resource, SourceFault};
 
-/// What a shelf has, as a source of resources: each is read when it is asked for. `Unavailable` where the shelf hasn't
-/// got it, or fails.
+/// A shelf as a source of resources: each is read when it is asked for. `Unavailable` if the shelf doesn't have it,
+/// or fails.
 #[derive(Drop)]
 pub struct ShelfReader<S>(pub S);
 
@@ -19,7 +19,7 @@ impl<S: Shelf> ResourceSource for ShelfReader<S> {
     ghost may_lack = { λ s r. (S.is_honest ≡ true → (S.kept s.0).held r ≡ None)
         ⊎ ((fault : ShelfFault) × S.may_fail s.0 r fault) };
 
-    /// The bytes that are there under the resource.
+    /// Returns the bytes of the resource on the shelf.
     fn get<A: Allocator>(&self, alloc: A, resource: &Resource) -> Result<Vec<u8, A>, SourceFault> {
         match self.0.read(alloc, resource) {
             Ok(Some(bytes)) => Ok(bytes),

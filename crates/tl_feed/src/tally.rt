@@ -1,4 +1,4 @@
-//! What witnesses gave of a round, and what is told of them: the state of a ballot, without its lock.
+//! The state of a ballot, without its lock.
 
 ghost use Rattle.std.specs.Prelude.{◌≡◌, ◌++◌, ◌∷◌, ◌<◌, ◌≤◌, ◌↔◌, [], false, None, Some, true, All, IfOk, IfSome, IsTrue, MatchOption, OnErr, length, option_map, slice_get, string_bytes};
 ghost use Rattle.std.specs.Arc.{arc_value};
@@ -9,30 +9,30 @@ use arrayvec::ArrayVec;
 use std::alloc::{AllocError, Global};
 use std::sync::Arc;
 
-// How many faults of witnesses wait to be handed out, at most.
+// The most faults that are kept until they are reported.
 const MOST_UNASKED: usize = 64;
 
-/// A round of a ballot: a note that is proposed, under a number of its own.
+/// A round of a ballot: a note that is proposed, and its number.
 #[derive(Drop)]
 pub(crate) struct Round {
-    /// Its number: that of the round before and one.
+    /// Its number: one more than that of the round before.
     pub(crate) number: u64,
     /// The signed note.
     pub(crate) note: Arc<String>,
 }
 
-/// What who proposes is told.
+/// An event of a ballot, for the thread that proposes.
 #[derive(Drop)]
 pub enum BallotEvent {
-    /// As many witnesses as were wanted gave a line of the round that is open: all lines so far, one after another.
+    /// As many witnesses as needed gave a line in the open round: all lines so far, one after another.
     Enough(String),
-    /// The witness at this place gave none, and why.
+    /// The witness at this place gave no line, for this reason.
     Unasked(usize, Unasked),
     /// The ballot has ended.
     Ended,
 }
 
-/// That the witness at this place gave no line, and why.
+/// A witness that gave no line, and why.
 #[derive(Clone, Copy)]
 pub(crate) struct NoLine {
     pub(crate) place: usize,
@@ -40,7 +40,7 @@ pub(crate) struct NoLine {
 }
 
 impl Default for NoLine {
-    // What stands where nothing waits.
+    // Returns a value for unused places.
     fn default() -> NoLine {
         NoLine {
             place: 0,
@@ -49,22 +49,22 @@ impl Default for NoLine {
     }
 }
 
-/// What witnesses gave of the round that is open, and why others gave nothing.
+/// The lines that witnesses gave in the open round, and why others gave none.
 #[derive(Drop)]
 pub(crate) struct Tally {
-    // The round that is open: until as many lines as were wanted have been told.
+    // The open round. It stays open until its lines are reported.
     round: Option<Round>,
     // The number of the round that was opened last, 0 before the first.
     opened: u64,
-    // The line of each witness, where it gave one of the round that is open.
+    // The line of each witness, if it gave one in the open round.
     lines: Vec<Option<String>>,
-    // What wasn't handed out yet, in order.
+    // The faults that aren't reported yet, in order.
     unasked: ArrayVec<NoLine, MOST_UNASKED>,
     has_ended: bool,
 }
 
 impl Tally {
-    /// That of so many witnesses, before the first round. It fails only where a growth was refused.
+    /// Creates the state for this many witnesses, before the first round. It fails only when allocation fails.
     pub(crate) fn new(alloc: Global, witnesses: usize) -> Result<Tally, AllocError>
         ensures count { IfOk result (λ tally. length tally.lines.items ≡ witnesses) }
         ensures none { IfOk result (λ tally. All (λ line. line ≡ None) tally.lines.items) }
@@ -86,14 +86,14 @@ impl Tally {
         })
     }
 
-    // The number of the next round.
+    // Returns the number of the next round.
     fn next_number(&self) -> u64
         ensures { result ≡ number_after self.now.opened }
     {
         self.opened.wrapping_add(1)
     }
 
-    // Forgets what witnesses gave.
+    // Forgets the lines of all witnesses.
     fn forget_lines(&mut self)
         ensures none { All (λ line. line ≡ None) self.new.lines.items }
         ensures count { length self.new.lines.items ≡ length self.old.lines.items }
@@ -107,7 +107,7 @@ impl Tally {
         }
     }
 
-    /// Opens the next round, of which no witness gave a line yet: its number.
+    /// Opens the next round, without any lines, and returns its number.
     pub(crate) fn open(&mut self, note: Arc<String>) -> u64
         ensures open { self.new.round ≡ Some (record { number = result; note = note }) }
         ensures number { result ≡ number_after self.old.opened }
@@ -124,7 +124,7 @@ impl Tally {
         number
     }
 
-    // Whether the round with this number is open.
+    // Reports whether the round with this number is open.
     fn is_open(&self, number: u64) -> bool
         ensures { IsTrue result ↔ IsOpen self.now number }
     {
@@ -134,7 +134,7 @@ impl Tally {
         }
     }
 
-    // Whether there is a witness at this place that gave no line.
+    // Reports whether there is a witness at this place that gave no line.
     fn gave_none(&self, place: usize) -> bool
         ensures { IsTrue result ↔ (slice_get self.now.lines.items place ≡ Some None) }
     {
@@ -144,7 +144,8 @@ impl Tally {
         }
     }
 
-    /// Takes the line of the witness at this place in, where the round with this number is open and it gave none.
+    /// Records the line of the witness at this place, if the round with this number is open and the witness gave none
+    /// before.
     pub(crate) fn put_line(&mut self, place: usize, number: u64, line: String)
         ensures { Puts place number line self.old self.new }
     {
@@ -153,7 +154,7 @@ impl Tally {
         }
     }
 
-    /// Takes in why a witness gave no line, unless too many of these wait.
+    /// Records why a witness gave no line, unless 64 of these are kept already.
     pub(crate) fn put_unasked(&mut self, place: usize, why: Unasked)
         ensures put { length self.old.unasked.items < 64 → self.new.unasked.items
             ≡ self.old.unasked.items ++ record { place = place; why = why } ∷ [] }
@@ -168,7 +169,7 @@ impl Tally {
         }
     }
 
-    /// Nothing is asked any more.
+    /// Ends the ballot: no witness is asked any more.
     pub(crate) fn end(&mut self)
         ensures ended { self.new.has_ended ≡ true }
         ensures lines { self.new.lines ≡ self.old.lines }
@@ -179,14 +180,14 @@ impl Tally {
         self.has_ended = true;
     }
 
-    /// Whether nothing is asked any more.
+    /// Reports whether the ballot has ended.
     pub(crate) fn has_ended(&self) -> bool
         ensures { result ≡ self.now.has_ended }
     {
         self.has_ended
     }
 
-    // Whether the witness at this place is to be asked about the round that is open.
+    // Reports whether the witness at this place is to be asked about the open round.
     fn is_for(&self, place: usize, after: u64) -> bool
         ensures { IsTrue result ↔ ((round : Round) × IsFor self.now place after round) }
     {
@@ -196,14 +197,14 @@ impl Tally {
         }
     }
 
-    /// Whether the round with this number is open, and more may come.
+    /// Reports whether the round with this number is open, and the ballot goes on.
     pub(crate) fn stays(&self, number: u64) -> bool
         ensures { IsTrue result ↔ ((self.now.has_ended ≡ false) × IsOpen self.now number) }
     {
         !self.has_ended && self.is_open(number)
     }
 
-    /// Whether the witness at this place waits for a round that isn't older than this.
+    /// Reports whether there is no round for the witness at this place, and the ballot goes on.
     pub(crate) fn is_idle(&self, place: usize, after: u64) -> bool
         ensures { IsTrue result ↔ ((self.now.has_ended ≡ false)
             × ((round : Round) → ¬ (IsFor self.now place after round))) }
@@ -211,8 +212,8 @@ impl Tally {
         !self.has_ended && !self.is_for(place, after)
     }
 
-    /// The round that the witness at this place is to be asked about, if it isn't older than this. None once the ballot
-    /// has ended.
+    /// Returns the round that the witness at this place is to be asked about, if its number isn't below `after`.
+    /// `None` if there is no such round or the ballot has ended.
     pub(crate) fn round_for(&self, place: usize, after: u64) -> Option<Round>
         ensures open { IfSome result (λ round. IsOpen self.now round.number) }
         ensures note { IfSome result (λ round.
@@ -236,7 +237,7 @@ impl Tally {
         })
     }
 
-    // How many witnesses gave a line.
+    // Returns how many witnesses gave a line.
     fn count(&self) -> usize
         ensures { result ≡ length (given self.now.lines.items) }
     {
@@ -249,7 +250,7 @@ impl Tally {
         count
     }
 
-    // All lines, one after another.
+    // Returns all lines, one after another.
     fn text(&self, alloc: Global) -> Result<String, AllocError>
         ensures { IfOk result (λ text. string_bytes text ≡ joined self.now.lines.items) }
     {
@@ -262,7 +263,7 @@ impl Tally {
         Ok(text)
     }
 
-    /// Whether there is nothing to tell who wants so many lines.
+    /// Reports whether there is no event for a thread that needs this many lines.
     pub(crate) fn is_quiet(&self, need: usize) -> bool
         ensures { IsTrue result ↔ ((self.now.has_ended ≡ false) × (self.now.unasked.items ≡ [])
             × (length (given self.now.lines.items) < need)) }
@@ -270,7 +271,7 @@ impl Tally {
         !self.has_ended && self.unasked.is_empty() && self.count() < need
     }
 
-    // The first of what wasn't handed out yet.
+    // Takes the first fault that isn't reported yet.
     fn take_unasked(&mut self) -> Option<NoLine>
         ensures first { MatchOption result (self.old.unasked.items ≡ [])
             (λ first. self.old.unasked.items ≡ first ∷ self.new.unasked.items) }
@@ -286,8 +287,8 @@ impl Tally {
         Some(self.unasked.remove(0))
     }
 
-    /// What who wants so many lines is told: once they are there, and the round is closed then. It fails only where
-    /// memory for them was refused.
+    /// Returns the next event for a thread that needs this many lines. If it is `Enough`, the round is closed. It
+    /// fails only when an allocation for the lines fails.
     pub(crate) fn tell(&mut self, alloc: Global, need: usize) -> Result<BallotEvent, AllocError>
         ensures told { IfOk result (Tells need self.old self.new) }
         ensures refused { OnErr result (self.new ≡ self.old) }

@@ -9,15 +9,15 @@ use tl_device::DeviceFault;
 /// Why a witness gave no cosignature.
 #[derive(Clone, Copy, Debug, PartialEq, Eq)]
 pub enum Unasked {
-    /// It can't be reached, or gave no answer in time.
+    /// The witness can't be reached, or gave no answer in time.
     Device(DeviceFault),
-    /// Its answer is none, or a refusal.
+    /// The witness refused, or its answer can't be read.
     Ask(AskFault),
-    /// The proof from the size that it has can't be made.
+    /// The proof from the size that the witness has can't be made.
     Growth(ClientFault),
-    /// It told of another size each time.
+    /// The witness answered with another size each time.
     Restless,
-    /// It cosigned, and not this checkpoint by the key that it is known by.
+    /// The witness answered with signature lines, and none of them is of this checkpoint by one of its keys.
     Other,
 }
 

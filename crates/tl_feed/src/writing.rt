@@ -1,4 +1,4 @@
-//! The body of a request, written.
+//! Writing the body of a request.
 
 ghost use Rattle.std.specs.Prelude.{◌≡◌, ◌++◌, IfOk, OnOk, string_bytes};
 ghost use Rattle.tl_feed.specs.Question.{body_of};
@@ -11,7 +11,7 @@ use std::alloc::{AllocError, Allocator};
 use tl_hash::Hash;
 use tl_text::push_line;
 
-// Appends hashes, one on each line.
+// Appends hashes in base64, one on each line.
 fn push_hashes<A: Allocator>(out: &mut String<A>, hashes: &[Hash]) -> Result<(), AllocError>
     ensures { OnOk result
         (string_bytes out.new ≡ string_bytes out.old ++ hash_lines hashes.now) }
@@ -23,8 +23,8 @@ fn push_hashes<A: Allocator>(out: &mut String<A>, hashes: &[Hash]) -> Result<(),
     Ok(())
 }
 
-/// The body of an add-checkpoint request: the old size, the hashes of the proof, one on each line, an empty line, and
-/// the note (C2SP tlog-witness, "add-checkpoint"). It fails only where a growth was refused.
+/// Returns the body of an add-checkpoint request: the old size, the hashes of the proof, one on each line, an empty
+/// line, and the note (C2SP tlog-witness, "add-checkpoint"). It fails only when allocation fails.
 pub fn question_bytes<A: Allocator>(
     alloc: A,
     question: &Question<'_>,

@@ -1,4 +1,4 @@
--- Evidence accuses no log whose checkpoints are each of a beginning of one list.
+-- Evidence accuses no log whose checkpoints are each of a prefix of one list.
 use Rattle.std.proofs.Common.{◌≡◌, ℕ, ◌≤◌, ◌⊎◌, inl, inr, List, length, take, take-take, sym, ◌∙◌, ap, arith}
 use Rattle.sha2.specs.Sha256.{sha256}
 use Rattle.tl_hash.specs.Sha256Length.{length-sha256}
@@ -11,7 +11,7 @@ use Rattle.tl_fork.specs.Evidence.{AccusesNoHonestLog, IsOfBeginning, LeadsElsew
 abbrev root_at : List (List ℕ) → ℕ → List ℕ
 root_at log n = tree_hash sha256 (take n log)
 
--- a proof that leads elsewhere between beginnings of one list shows a collision
+-- a proof that leads elsewhere between prefixes of one list shows a collision
 elsewhere_collides : (a b : Head) (p : Consistency) → IsConsistency p → LeadsElsewhere a b p
     → (log : List (List ℕ)) → IsOfBeginning log a → IsOfBeginning log b → ProofCollides log p
 elsewhere_collides a b p lawful leads log of_a of_b =

@@ -25,21 +25,21 @@ use Rattle.tl_http.proofs.BodyLemmas.{gave_then}
 use Rattle.tl_http.proofs.ExchangeLemmas.{body_after, decides_alone, fields_at, taken_alone, whole_begins}
 use Rattle.tl_http.proofs.ReplyLemmas.{body_of, field_at, given, one_read, reply_fault}
 
--- what decides of a head, what follows it and its framing
+-- a head, what follows it and its framing decide
 abbrev pub Decides : Sought → Begun → Framing → Replied → Type 0
 Decides s b framing r = ReplyDecides s.field s.limit b (body_framing (status_code b.head) framing) r
 
--- what came with the head of its body
+-- the part of the body that came with the head
 abbrev pub begun_of : List ℕ → Taken → List ℕ
 begun_of buf taken =
     take (length (slice_range buf taken.start taken.len) - taken.spans.len) (drop taken.spans.len (slice_range buf taken.start taken.len))
 
--- the head decides alone
+-- the head alone decides
 pub answer_alone : (s : Sought) (i : Passage) (fault : HttpFault) → Receives (λ input r. Rattle.tl_http.specs.Response.ResponseDecides (Contains s.statuses) (λ _ _. ⊥) input r) i (faulty fault)
     → Receives (Answers s) i (reply_fault fault)
 answer_alone s i fault received = decides_alone Given (Contains s.statuses) (λ b framing r. Decides s b framing r) i fault received
 
--- memory for the wanted value was refused
+-- an allocation for the wanted value failed
 pub answer_no_field : (s : Sought) (i : Passage) (buf : List ℕ) (headers : List HeaderSpan) (taken : Taken) → TookHead (Contains s.statuses) i buf headers taken
     → (value : List ℕ) × (only_one (values_of s.field (fields_at (slice_range buf taken.start taken.len) headers taken.spans)) ≡ Some value) × (0 < length value)
     → Receives (Answers s) i (Err OutOfMemory)
@@ -48,7 +48,7 @@ answer_no_field s i buf headers taken took refused =
     taken_alone Given (Contains s.statuses) (λ b framing r. Decides s b framing r) i buf headers taken.start taken.len taken.spans taken.framing (Err OutOfMemory) took.headed took.is
     (λ rest. inl (refl, (refused.0, sym same ∙ refused.1, refused.2)))
 
--- the body's framing by the status that was read is that by the head's
+-- the framing by the status that was read is the framing by the head's status
 of_head : (limit : ℕ) (code status : ℕ) (framing : Framing) (rest : List ℕ) (body : Outcome) → code ≡ status
     → BodyDecides limit (body_framing code framing) rest body → BodyDecides limit (body_framing status framing) rest body
 of_head limit code status framing rest body same decides = subst (λ (n : ℕ). BodyDecides limit (body_framing n framing) rest body) same decides
@@ -92,7 +92,7 @@ persists_on minor code fields head framing version status same =
     ∙ (ap (λ (n : ℕ). Persists head.minor n fields (body_framing n framing)) status
     ∙ ap (λ (l : List (List ℕ × List ℕ)). Persists head.minor (status_code head) l (body_framing (status_code head) framing)) same)
 
--- nothing came behind the body exactly where no more of it came with the head than it has
+-- nothing came behind the body if and only if no more bytes came with the head than it has
 ends_with : (begun bytes body : List ℕ) (n : ℕ) → begun ++ bytes ≡ body ++ drop n begun → length body ≡ n → length begun ≤ length body → begun ++ bytes ≡ body
 ends_with begun bytes body n joined whole fits =
     joined ∙ (ap (λ (l : List ℕ). body ++ l) (drop_all n begun (omega (arith, whole, fits))) ∙ append-nil body)
@@ -174,7 +174,7 @@ open_framed UntilEnd a b c f g h buf headers taken Wanted body goes_on stays_ope
 open_framed Chunked a b c f g h buf headers taken Wanted body goes_on stays_open P is took received full persists left =
     open_unsized a b c f g h buf headers taken Wanted body goes_on stays_open P took received (λ n sized. absurd (cc)) persists left
 
--- the connection stays open where it goes on and nothing came behind the body
+-- the connection stays open if it goes on and nothing came behind the body
 pub answer_open : (a b c : Option (List ℕ)) (f g h : Bool) (buf : List ℕ) (headers : List HeaderSpan) (taken : Taken) (Wanted : ℕ → Type 0) (body : List ℕ) (goes_on stays_open : Bool)
     (limit : ℕ) (took : TookHead Wanted (over a b f g) buf headers taken)
     → Receives (λ rest r. BodyDecides limit (body_framing taken.spans.code taken.framing) (begun_of buf taken ++ rest) r) (over b c g h) (Ok body)

@@ -1,4 +1,4 @@
--- The table of a chunked body tells one outcome of an input, but where a growth was refused.
+-- A chunked body has one result for an input, unless an allocation fails.
 use Rattle.std.proofs.Common.{◌≡◌, ◌+◌, ◌-◌, ◌<◌, ◌≤◌, ℕ, List, [], ◌∷◌, ◌++◌, Result, Ok, Err, All, append-nil, append_assoc, ap, arith, codes, drop, inl, inr, length, length-append, refl, subst, sym, take, ◌⊎◌, ◌∙◌}
 use Rattle.std.proofs.lemmas.List.{drop_at, take_at}
 use Rattle.std.proofs.lemmas.List.Elements.{All-head, All-tail}
@@ -10,7 +10,7 @@ use Rattle.tl_http.specs.Response.{ChunkDecides, ChunksDecide, DataDecides, Line
 use Rattle.tl_http.specs.declared.fault.HttpFault.{HttpFault}
 use Rattle.tl_http.specs.declared.fault.HttpFault.TheVariants.{OutOfMemory}
 
--- a text begins with one line of a chunk
+-- a text begins with at most one chunk's line
 line_reads : (text rest : List ℕ) (n : ℕ) (is : IsLine text n) → ReadsChunkLine (text ++ rest) is.line rest
 line_reads text rest n is = (is.valid, ap (λ (l : List ℕ). l ++ rest) (sym is.printed))
 
@@ -22,7 +22,7 @@ line_unique text other rest after n m a b same =
     let one = chunk_line_unique (text ++ rest) a.line b.line rest after (line_reads text rest n a) reads in
     (sym a.written ∙ (ap chunk_size one.0 ∙ b.written), one.1)
 
--- it isn't cut
+-- a text that begins with a line isn't cut
 no_cut_line : (text rest : List ℕ) (n : ℕ) → IsLine text n → ¬ (IsCutLine (text ++ rest))
 no_cut_line text rest n is cut =
     let more : List ℕ = cut.cut.0 in
@@ -32,7 +32,7 @@ no_cut_line text rest n is cut =
     let some = cut.cut.1 in
     omega (arith, ap (λ (l : List ℕ). length l) one.1, length-append rest more, some)
 
--- it isn't lacking
+-- a text that begins with a line doesn't lack one
 no_lacks_line : (text rest : List ℕ) (n : ℕ) → IsLine text n → ¬ (LacksLine (text ++ rest))
 no_lacks_line text rest n is (inl never) =
     never [] is.line rest (subst (λ (l : List ℕ). ReadsChunkLine l is.line rest) (sym (append-nil (text ++ rest))) (line_reads text rest n is))
@@ -44,7 +44,7 @@ no_lacks_line text rest n is (inr late) =
     late.1 is.line (take (256 - length text) rest)
     (subst (λ (l : List ℕ). ReadsChunkLine l is.line (take (256 - length text) rest)) (sym front) (line_reads text (take (256 - length text) rest) n is))
 
--- a text that is cut lacks no line
+-- a text that is cut doesn't lack a line
 no_cut_lacking : (text : List ℕ) → IsCutLine text → ¬ (LacksLine text)
 no_cut_lacking text cut (inl never) =
     never cut.cut.0 cut.line [] (cut.valid, cut.cut.2 ∙ sym (append-nil (print_chunk_line cut.line)))
@@ -52,7 +52,7 @@ no_cut_lacking text cut (inr late) =
     let short = cut.short in
     omega (arith, short, late.0)
 
--- a text of a chunk's data that is cut lacks no end
+-- a chunk's data that are cut don't lack their end
 no_cut_ending : (n : ℕ) (text : List ℕ) → IsCutData n text → ¬ (LacksEnd n text)
 no_cut_ending n text cut lacks =
     let more : List ℕ = cut.cut.0 in
@@ -63,11 +63,11 @@ no_cut_ending n text cut lacks =
     ∙ (ap (λ (l : List ℕ). drop n l) whole ∙ drop_at cut.content (codes "\r\n") n cut.long) in
     lacks.never more [] (end ∙ sym (append-nil (codes "\r\n")))
 
--- two outcomes are the same, but where a growth was refused
+-- two results are equal, or one is that an allocation failed
 abbrev pub IsOne : {R : Type 0} → Result R HttpFault → Result R HttpFault → Type 0
 IsOne r q = (r ≡ q) ⊎ ((r ≡ Err OutOfMemory) ⊎ (q ≡ Err OutOfMemory))
 
--- one outcome of the same data
+-- one result for equal data
 one_of_data : (n : ℕ) (rest : List ℕ) (r q : Outcome) → DataDecides n rest r → DataDecides n rest q → IsOne r q
 one_of_data n rest r q (inl memory) other = inr (inl memory.0)
 one_of_data n rest r q (inr first) (inl memory) = inr (inr memory.0)
@@ -76,7 +76,7 @@ one_of_data n rest r q (inr (inl cut)) (inr (inr lacks)) = absurd (no_cut_ending
 one_of_data n rest r q (inr (inr lacks)) (inr (inl cut)) = absurd (no_cut_ending n rest cut.1 lacks.1)
 one_of_data n rest r q (inr (inr lacks)) (inr (inr then)) = inl (lacks.0 ∙ sym then.0)
 
--- one outcome of the same line
+-- one result for equal lines
 one_of_size : (limit : ℕ) (content : List ℕ) (n : ℕ) (rest : List ℕ) (r q : Outcome) → length content ≤ limit
     → SizeDecides limit content n rest r → SizeDecides limit content n rest q → IsOne r q
 one_of_size limit content n rest r q fits (inl last) (inl then) = inl (last.0 ∙ sym then.0)
@@ -94,7 +94,7 @@ abbrev pub Found : ℕ → List ℕ → List ℕ → Outcome → Type 0
 Found limit content rest r =
     (line : List ℕ) × (after : List ℕ) × (n : ℕ) × (rest ≡ line ++ after) × IsLine line n × SizeDecides limit content n after r
 
--- no line is missing there
+-- a line that was found is not missing
 not_missing : (limit : ℕ) (content rest : List ℕ) (r q : Outcome) → Found limit content rest r → ¬ (LineDecides rest q)
 not_missing limit content rest r q found (inl cut) =
     no_cut_line found.0 found.1 found.2 found.4 (subst (λ (l : List ℕ). IsCutLine l) found.3 cut.1)
@@ -109,7 +109,7 @@ one_of_found limit content rest r q fits found then =
     subst (λ (l : List ℕ). SizeDecides limit content then.2 l r) one.1 (subst (λ (n : ℕ). SizeDecides limit content n found.1 r) one.0 found.5) in
     one_of_size limit content then.2 then.1 r q fits decides then.5
 
--- one outcome after the same chunks
+-- one result after equal chunks
 one_after : (limit : ℕ) (content rest : List ℕ) (r q : Outcome) → length content ≤ limit → ChunkDecides limit content rest r → ChunkDecides limit content rest q → IsOne r q
 one_after limit content rest r q fits (inl (inl cut)) (inl (inl then)) = inl (cut.0 ∙ sym then.0)
 one_after limit content rest r q fits (inl (inl cut)) (inl (inr lacks)) = absurd (no_cut_lacking rest cut.1 lacks.1)
@@ -119,7 +119,7 @@ one_after limit content rest r q fits (inl missing) (inr found) = absurd (not_mi
 one_after limit content rest r q fits (inr found) (inl missing) = absurd (not_missing limit content rest r q found missing)
 one_after limit content rest r q fits (inr found) (inr then) = one_of_found limit content rest r q fits found then
 
--- the data of a chunk and their end aren't cut
+-- a chunk's data with their end aren't cut
 no_cut_data : (content rest : List ℕ) (n : ℕ) → length content ≡ n → ¬ (IsCutData n ((content ++ codes "\r\n") ++ rest))
 no_cut_data content rest n long cut =
     let more : List ℕ = cut.cut.0 in
@@ -138,7 +138,7 @@ no_cut_data content rest n long cut =
       length-append cut.content (codes "\r\n"),
     )
 
--- nor do they lack their end
+-- a chunk's data with their end don't lack it
 no_lacks_end : (content rest : List ℕ) (n : ℕ) → length content ≡ n → ¬ (LacksEnd n ((content ++ codes "\r\n") ++ rest))
 no_lacks_end content rest n long lacks =
     let tail : codes "\r\n" ++ rest ≡ lacks.rest =
@@ -221,7 +221,7 @@ one_of_chunks (c ∷ cs) (d ∷ ds) limit past rest after r q first then fits ro
     (subst (λ (l : List ℕ). ChunkDecides limit l rest r) mine a)
     (subst (λ (l : List ℕ). ChunkDecides limit l after q) other b)
 
--- an input has one outcome, or a growth was refused
+-- an input has one result, unless an allocation fails
 pub one_outcome : (limit : ℕ) (input : List ℕ) (r q : Outcome) → ChunksDecide limit input r → ChunksDecide limit input q → IsOne r q
 one_outcome limit input r q a b =
     let first = a.2 in
@@ -229,7 +229,7 @@ one_outcome limit input r q a b =
     one_of_chunks a.0 b.0 limit [] a.1 b.1 r q first.chunked then.chunked (omega (arith, first.fits)) (omega (arith, then.fits))
     (sym first.joined ∙ then.joined) a.3 b.3
 
--- a chunked body within the limit gives its data, whatever follows it, or a growth was refused
+-- a chunked body within the limit gives its data, whatever follows it, unless an allocation fails
 pub chunked_body : (limit : ℕ) (chunks : List Chunk) (last after : List ℕ) (r : Outcome) → All IsChunk chunks → IsLine last 0 → length (chunks_content chunks) ≤ limit
     → ChunksDecide limit (chunks_text chunks ++ (last ++ after)) r → (r ≡ Ok (chunks_content chunks)) ⊎ (r ≡ Err OutOfMemory)
 chunked_body limit chunks last after r chunked is fits decides =

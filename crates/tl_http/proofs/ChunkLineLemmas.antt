@@ -1,4 +1,4 @@
--- What the parser says of a chunk's line, of an input of which the first bytes were read.
+-- What the parser reports of a chunk's line, for an input of which the first bytes were read.
 use Rattle.std.proofs.Common.{◌≡◌, ◌+◌, ◌<◌, ◌≤◌, ℕ, Bool, List, Option, [], ◌∷◌, ◌++◌, append-nil, append_assoc, ap, arith, drop, inl, inr, length, length-append, length-take, min, subst, sym, take, ◌∙◌}
 use Rattle.std.proofs.lemmas.List.{take-append-drop, take-append-le, take-take, take_all, take_at}
 use Rattle.httparse.specs.Grammar.{ChunkLine, HasNoChunkLine, MayBecomeChunkLine, NeverHasChunkLine, ReadsChunkLine, print_chunk_line}
@@ -65,7 +65,7 @@ line_cut bytes most least short none may =
       cut = (may.0, some_more bytes may.0 may.1 no_line reads, reads.1 ∙ append-nil (print_chunk_line may.1));
     }
 
--- where bytes lack a line, so do they with whatever follows
+-- bytes that lack a line lack one whatever follows
 pub lacks_on : (bytes rest : List ℕ) → LacksLine bytes → LacksLine (bytes ++ rest)
 lacks_on bytes rest (inl never) = inl (λ more l after reads.
     never (rest ++ more) l after (subst (λ (t : List ℕ). ReadsChunkLine t l after) (append_assoc bytes rest more) reads))

@@ -1,4 +1,4 @@
--- Where an option stands in the value of a field.
+-- The option `close` in the value of a field.
 use Rattle.std.proofs.Common.{◌≡◌, ◌+◌, ◌<◌, ◌≤◌, ℕ, List, ◌++◌, Bool, IsTrue, false, true, ap, append_assoc, arith, codes, drop, inl, inr, length, length-append, refl, reverse, subst, sym, take, ◌∙◌}
 use Rattle.std.proofs.lemmas.List.{length-map, length-take-le, take-append-drop}
 use Rattle.std.proofs.Math.Nat.{eq-or-lt_of_le}
@@ -9,7 +9,7 @@ use Rattle.tl_http.specs.Fields.{IsSameWord}
 use Rattle.tl_http.specs.Persistence.{NamesClose, is_item_end}
 use Rattle.tl_http.specs.Inner.Closing.{NamesCloseAt}
 
--- what stands at a place
+-- what stands at an index of the value
 pub stands_at : (value before rest word after : List ℕ) (start : ℕ) → start ≤ length value → before ≡ take start value → rest ≡ drop start value
     → word ≡ take 5 rest → after ≡ drop 5 rest → IsSameWord word (codes "close") → IsTrue (is_item_end (reverse before)) → IsTrue (is_item_end after)
     → NamesCloseAt value start
@@ -32,7 +32,7 @@ stands_at value before rest word after start within front back cut left close fi
 five : (word : List ℕ) → IsSameWord word (codes "close") → length word ≡ 5
 five word same = sym (length-map word to_ascii_lowercase) ∙ ap (λ (l : List ℕ). length l) same
 
--- the parts that stand at a place are those that are cut there
+-- the parts at an index are those that are cut there
 pub record Parts (value before word after : List ℕ) (start : ℕ) : Type 0 where
   pub front : before ≡ take start value
   pub cut : word ≡ take 5 (drop start value)
@@ -56,7 +56,7 @@ pub parts_at : (value : List ℕ) (start : ℕ) (at : NamesCloseAt value start) 
 parts_at value start (is, place) =
     subst (λ (k : ℕ). Parts value is.before is.word is.after k) place (parts value is.before is.word is.after (is.joined ∙ append_assoc is.before is.word is.after) (five is.word is.close))
 
--- at no place up to this one
+-- the option stands at no index up to this one
 pub none_further : (value : List ℕ) (start : ℕ) → ((k : ℕ) → k < start → ¬ (NamesCloseAt value k)) → ¬ (NamesCloseAt value start)
     → (k : ℕ) → k < start + 1 → ¬ (NamesCloseAt value k)
 none_further value start before here k within = λ at.
@@ -65,14 +65,14 @@ none_further value start before here k within = λ at.
       | inr less ↦ before k less at
     ]
 
--- an option stands at some place of the value
+-- an option stands at some index of the value
 pub at_some : (value : List ℕ) (end : ℕ) → length value ≤ end → ((k : ℕ) → k < end → ¬ (NamesCloseAt value k)) → ¬ (NamesClose value)
 at_some value end past none = λ is.
     let at = parts_at value (length is.before) (is, refl) in
     let room = at.room in
     none (length is.before) (omega (arith, room, past)) (is, refl)
 
--- ---- what the tests tell
+-- ---- what the tests report
 
 -- what is true isn't false
 pub is_apart : (test : Bool) → IsTrue test → test ≡ false → ⊥
@@ -109,6 +109,6 @@ stands_where value before rest word after start test end within front back cut l
       ends ∙ subst (λ (l : List ℕ). IsTrue (is_item_end l)) same at.0.last,
 )
 
--- it stands at no place of the value
+-- the option stands at no index of the value
 pub stands_nowhere : (value : List ℕ) (end : ℕ) → length value ≤ end → ((k : ℕ) → k < end → ¬ (NamesCloseAt value k)) → IsTrue false ↔ NamesClose value
 stands_nowhere value end past none = (λ is. absurd (is_apart false is refl), λ is. absurd (at_some value end past none is))

@@ -87,14 +87,14 @@ cut_in_data n left content sum some =
       },
     ))
 
--- the same where it was read
+-- the input ended inside the data, as it was read
 pub data_short : (a b c : Option (List ℕ)) (f g h : Bool) (old mid body grown : List ℕ) (n left : ℕ) → CameData (over a b f g) old mid body grown n left
     → Gave (over b c g h) [] true × (mid ≡ []) → 0 < left → Receives (λ rest r. DataDecides n (old ++ rest) r) (over a c f h) (Err Short)
 data_short a b c f g h old mid body grown n left came ended some =
     decided_at_end (DataDecides n) (Err Short) a b c f g h old mid came.content came.took ended.0
     (subst (λ (l : List ℕ). DataDecides n (came.content ++ l) (Err Short)) (sym ended.1) (cut_in_data n left came.content came.sum some))
 
--- a growth for data was refused
+-- an allocation for data failed
 pub data_unkept : (a b c : Option (List ℕ)) (f g h : Bool) (old mid kept body grown : List ℕ) (n left : ℕ) → CameData (over a b f g) old mid body grown n left
     → Took (over b c g h) mid kept [] → 0 < length kept → 0 < left → Receives (λ rest r. DataDecides n (old ++ rest) r) (over a c f h) (Err OutOfMemory)
 data_unkept a b c f g h old mid kept body grown n left came took some wanted =
@@ -105,11 +105,11 @@ data_unkept a b c f g h old mid kept body grown n left came took some wanted =
 
 -- ---- the end of a chunk
 
--- the same first bytes
+-- equal lists have equal first bytes
 same_first : (x y : ℕ) (xs ys : List ℕ) → x ∷ xs ≡ y ∷ ys → x ≡ y
 same_first x y xs ys same = cc
 
--- the same bytes after them
+-- equal lists have equal bytes after the first
 same_rest : (x y : ℕ) (xs ys : List ℕ) → x ∷ xs ≡ y ∷ ys → xs ≡ ys
 same_rest x y xs ys same = cc
 

@@ -21,7 +21,7 @@ use Rattle.tl_http.specs.declared.fault.HttpFault.TheVariants.{BadLength, Encode
 use Rattle.tl_device.proofs.SendingLemmas.{over}
 use Rattle.tl_http.proofs.PassedLemmas.{few_fields}
 
--- ---- what decides alone
+-- ---- what decides a result alone
 
 -- an outcome that is a fault
 abbrev pub fault_of : (R : Type 0) → HttpFault → Result R HttpFault
@@ -197,7 +197,7 @@ pub only_status : (status : ℕ) → Contains (200 ∷ []) status → status ≡
 only_status status (zero, within, is) = sym is
 only_status status (suc k, within, is) = absurd (omega (arith, within))
 
--- a status of a list of one is that one
+-- a status in a list of one is that status
 found_only : (R : Type 0) (status : ℕ) (r : Result R HttpFault) (more : Type 0)
     → Unless (Contains (200 ∷ []) status) (r ≡ Err (Status status)) more → Unless (status ≡ 200) (r ≡ Err (Status status)) more
 found_only R status r more (inl otherwise) = inl ((λ same. otherwise.0 (0, omega arith, sym same)), otherwise.1)
@@ -214,7 +214,7 @@ found_input R Taken input r (inl otherwise) = inl otherwise
 found_input R Taken input r (inr so) =
     inr (so.0, so.1, found_head R so.0.head.minor (status_code so.0.head) (fields_of so.0.head.fields) (Taken so.0) r so.2)
 
--- what was read decides where that status is wanted
+-- what was read decides, if status 200 is wanted
 pub found_receives : (limit : ℕ) (i : Passage) (r : Outcome)
     → Receives (λ input r. ResponseDecides (λ s. Contains (200 ∷ []) s) (λ b framing. BodyDecides limit framing b.rest r) input r) i r → Receives (Responds limit) i r
 found_receives limit i r (inl failed) = inl failed

@@ -1,4 +1,4 @@
--- A body that is given has at most as many bytes as its request allows.
+-- A body that is returned has at most as many bytes as its request allows.
 use Rattle.std.proofs.Common.{◌≡◌, ℕ, ◌≤◌, List, [], length, take, refl, sym, ap, arith, inl, inr, Ok, Err, append-nil}
 use Rattle.std.specs.Prelude.{◌⊎◌}
 use Rattle.std.proofs.lemmas.List.{length-take-le}
@@ -11,11 +11,11 @@ use Rattle.tl_http.specs.declared.framing.Framing.TheVariants.{Sized, UntilEnd, 
 use Rattle.tl_http.specs.declared.fault.HttpFault.{HttpFault}
 use Rattle.tl_http.specs.declared.fault.HttpFault.TheVariants as get
 
--- a request gave this body
+-- a request returned this body
 abbrev gave : List ℕ → Outcome
 gave body = Ok body
 
--- a row of the table that gives a fault isn't the one that gave a body
+-- a case of the table with a fault isn't the one with a body
 past : (P R : Type 0) (body : List ℕ) (why : HttpFault) → Unless P (gave body ≡ Err why) R → R
 past P R body why (inl fault) = let e = fault.1 in absurd (cc)
 past P R body why (inr so) = so.1

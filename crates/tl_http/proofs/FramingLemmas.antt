@@ -9,7 +9,7 @@ use Rattle.tl_http.specs.declared.fault.HttpFault.{HttpFault}
 use Rattle.tl_http.specs.declared.framing.Framing.{Framing}
 use Rattle.tl_http.specs.declared.framing.Framing.TheVariants.{Sized, UntilEnd, Chunked}
 
--- where no length is clear, no framing is
+-- if no length is clear, no framing is
 pub unclear : (fields : List (List ℕ × List ℕ)) → ((n : Option ℕ) → ¬ (HasLength fields n)) → (framing : Framing) → ¬ (HasFraming fields framing)
 unclear fields none (Sized n) has = none (Some n) has.1
 unclear fields none UntilEnd has = none None has.1
@@ -19,7 +19,7 @@ unclear fields none Chunked has = none None has.1
 pub one_value : (values : List (List ℕ)) (value : List ℕ) → values ≡ value ∷ [] → ¬ (values ≡ [])
 one_value values value one none = absurd cc
 
--- where a length is there beside chunks, no framing is
+-- if there is a length beside chunks, no framing is clear
 pub both : (fields : List (List ℕ × List ℕ)) → IsChunked (values_of (codes "Transfer-Encoding") fields) → ¬ (HasLength fields None)
     → (framing : Framing) → ¬ (HasFraming fields framing)
 both fields chunked some (Sized n) has = one_value (values_of (codes "Transfer-Encoding") fields) chunked.0 chunked.1 has.0

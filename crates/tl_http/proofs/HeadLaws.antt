@@ -1,4 +1,4 @@
--- What the parser's refusals say of an input, of which a part was read.
+-- What a parser's refusal means for an input of which a part was read.
 use Rattle.std.proofs.Common.{◌≡◌, ◌+◌, ◌≤◌, ℕ, List, [], ◌∷◌, ◌++◌, All, length, length-append, slice_range, take, drop, arith, sym, ◌∙◌, ap, subst, append-nil, append_assoc, true, Bool, refl}
 use Rattle.std.proofs.lemmas.List.{take-append-le, take-append-drop}
 use Rattle.std.proofs.lemmas.List.Elements.{All-head, All-tail}
@@ -13,7 +13,7 @@ use Rattle.tl_http.specs.Inner.Heads.{HasNoHead, Passed}
 
 -- ---- the first head after those that were passed
 
--- the input goes on with a head that is within the limits, of which those passed have so many bytes
+-- the input goes on with a head that is within the limits, after `past` bytes of interim heads
 pub record Next (input : List ℕ) (past most : ℕ) : Type 0 where
   pub head : ResponseHead
   pub rest : List ℕ
@@ -21,7 +21,7 @@ pub record Next (input : List ℕ) (past most : ℕ) : Type 0 where
   pub few : length head.fields ≤ 64
   pub short : past + length (print_response head) ≤ most
 
--- a text begins with one head
+-- a text begins with at most one head
 heads_same : (x y : ResponseHead) (xs ys : List ℕ) → IsInterim x → ReadsResponse (print_response y ++ ys) y ys → print_response x ++ xs ≡ print_response y ++ ys
     → (x ≡ y) × (xs ≡ ys)
 heads_same x y xs ys is reads same =

@@ -6,13 +6,13 @@ use Rattle.tl_http.specs.Fields.{AnnouncesLength, IsLength}
 pub one_number : (text : List ℕ) (m n : ℕ) → IsLength m text → IsLength n text → m ≡ n
 one_number text m n a b = sym a.written.value ∙ b.written.value
 
--- one value more, where the others aren't clear
+-- one value more, if the others aren't clear
 pub still_unclear : (text : List ℕ) (values : List (List ℕ)) → ((n : Option ℕ) → ¬ (AnnouncesLength values n)) → (n : Option ℕ) → ¬ (AnnouncesLength (text ∷ values) n)
 still_unclear text [] none n said = none None refl
 still_unclear text (v ∷ values) none None said = absurd cc
 still_unclear text (v ∷ values) none (Some n) said = none (Some n) ((λ e. absurd cc), said.1.1)
 
--- one value more, where the others announce another number
+-- one value more, if the others announce another number
 pub two_numbers : (text : List ℕ) (values : List (List ℕ)) (n m : ℕ) → IsLength n text → AnnouncesLength values (Some m) → m ≢ n
     → (k : Option ℕ) → ¬ (AnnouncesLength (text ∷ values) k)
 two_numbers text [] n m is others apart k said = others.0 refl

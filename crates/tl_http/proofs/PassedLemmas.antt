@@ -101,7 +101,7 @@ put_length buf ys len within same =
       length-drop len buf,
     )
 
--- what was passed is the same after more was read
+-- the interim heads that were passed stay the same as more is read
 pub passed_grown : (buf ys : List ℕ) (start len k n : ℕ) → start ≤ len → len ≤ length buf → n ≤ length ys → Passed buf start len
     → Passed (put_mid len k buf ys) start (len + n)
 passed_grown buf ys start len k n ordered within fits passed =

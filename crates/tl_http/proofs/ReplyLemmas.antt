@@ -21,7 +21,7 @@ pub field_at : (part : List ℕ) (headers : List HeaderSpan) (spans : ResponseSp
     → only_one (values_of name (fields_at part headers spans)) ≡ field_value name head
 field_at part headers spans head name at = ap (λ (l : List (List ℕ × List ℕ)). only_one (values_of name l)) at.fields
 
--- memory for that value was refused
+-- an allocation for that value failed
 pub no_field : (statuses name : List ℕ) (limit : ℕ) (i : Passage) (buf : List ℕ) (headers : List HeaderSpan) (taken : Taken)
     → TookHead (Contains statuses) i buf headers taken
     → (value : List ℕ) × (only_one (values_of name (fields_at (slice_range buf taken.start taken.len) headers taken.spans)) ≡ Some value) × (0 < length value)

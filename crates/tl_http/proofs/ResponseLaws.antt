@@ -1,4 +1,4 @@
--- The tables of a response and of a reply tell one outcome of an input, but where memory was refused.
+-- A response and a reply have one result for an input, unless an allocation fails.
 use Rattle.std.proofs.Common.{◌≡◌, ℕ, List, [], ◌∷◌, ◌++◌, All, Contains, Result, Some, append_assoc, ap, codes, inl, inr, refl, subst, sym, ◌⊎◌, ◌∙◌}
 use Rattle.std.proofs.lemmas.List.Elements.{All-head, All-tail}
 use Rattle.std.specs.List.{flat_map}
@@ -17,7 +17,7 @@ use Rattle.tl_http.proofs.LengthLemmas.{one_number}
 
 -- ---- one head
 
--- a head that an input has is no interim one that another reading passes
+-- a head of an input isn't an interim head that another reading passes
 not_interim : (x head : ResponseHead) (xs rest : List ℕ) → IsInterim x → ReadsResponse (print_response x ++ xs) head rest → IsInterimStatus (status_code head)
 not_interim x head xs rest is reads =
     let one = response_unique (print_response x ++ xs) x head xs rest (is.valid, refl) reads in
@@ -44,7 +44,7 @@ one_head (x ∷ xs) (y ∷ ys) after then head other rest more a b same reads th
     let one = response_unique (print_response x ++ first) x y first second (is.valid, refl) (next.valid, texts) in
     one_head xs ys after then head other rest more (All-tail IsInterim x xs a) (All-tail IsInterim y ys b) one.1 reads there final last
 
--- an input begins with one head
+-- an input begins with at most one head
 one_begun : (input : List ℕ) (b c : Begun) → Begins input b → Begins input c → (b.head ≡ c.head) × (b.rest ≡ c.rest)
 one_begun input b c is then =
     one_head is.interim then.interim is.after then.after b.head c.head b.rest c.rest is.passed then.passed (sym is.joined ∙ then.joined) is.reads then.reads is.final then.final
@@ -66,7 +66,7 @@ one_framing fields Chunked (Sized m) a b = absurd (b.1.0 a.1)
 one_framing fields Chunked UntilEnd a b = absurd (one_value (values_of (codes "Transfer-Encoding") fields) a.0.0 a.0.1 b.0)
 one_framing fields Chunked Chunked a b = refl
 
--- the same head and rest
+-- an input has one head and rest
 begun_of : ResponseHead → List ℕ → Begun
 begun_of head rest = record { head = head; rest = rest }
 
@@ -78,14 +78,14 @@ same_begun input b c is then =
 
 -- ---- one outcome
 
--- a row, and the rest of its table
+-- a case, and the rest of its table
 one_row : (R fact rest more : Type 0) (r q one : Result R HttpFault) → (rest → more → IsOne r q) → Unless fact (r ≡ one) rest → Unless fact (q ≡ one) more → IsOne r q
 one_row R fact rest more r q one below (inl a) (inl b) = inl (a.1 ∙ sym b.1)
 one_row R fact rest more r q one below (inl a) (inr b) = absurd (a.0 b.0)
 one_row R fact rest more r q one below (inr a) (inl b) = absurd (b.0 a.0)
 one_row R fact rest more r q one below (inr a) (inr b) = below a.1 b.1
 
--- the row of a refused growth, and the rest of its table
+-- the case of a failed allocation, and the rest of its table
 one_memory : (most : ℕ) (text : List ℕ) (rest more : Type 0) (r q : Outcome) → (rest → more → IsOne r q)
     → LacksMemory most text r ⊎ rest → LacksMemory most text q ⊎ more → IsOne r q
 one_memory most text rest more r q below (inl a) other = inr (inl a.0)
@@ -111,7 +111,7 @@ one_of_head : (R : Type 0) (Wanted : ℕ → Type 0) (minor status : ℕ) (field
 one_of_head R Wanted minor status fields P Q r q below a b =
     one_row R _ _ _ r q _ (one_row R _ _ _ r q _ (one_row R _ _ _ r q _ (one_fields R fields P Q r q _ below))) a b
 
--- an input has one outcome where a head, what follows it and its framing have one
+-- an input has one result if a head, what follows it and its framing have one
 one_decided : (R : Type 0) (Wanted : ℕ → Type 0) (P Q : Begun → Framing → Type 0) (input : List ℕ) (r q : Result R HttpFault)
     → ((b : Begun) (f : Framing) → P b f → Q b f → IsOne r q) → ResponseDecides Wanted P input r → ResponseDecides Wanted Q input q → IsOne r q
 one_decided R Wanted P Q input r q below (inl a) (inl b) = inl (a.1 ∙ sym b.1)
@@ -123,7 +123,7 @@ one_decided R Wanted P Q input r q below (inr a) (inr b) =
     subst (λ (x : Begun). HeadDecides Wanted x.head.minor (status_code x.head) (fields_of x.head.fields) (P x) r) (same_begun input a.0 b.0 a.1 b.1) a.2 in
     one_of_head R Wanted head.minor (status_code head) (fields_of head.fields) (P b.0) (Q b.0) r q (below b.0) there b.2
 
--- an input has one outcome, or a growth was refused
+-- an input has one result, unless an allocation fails
 pub one_response : (limit : ℕ) (input : List ℕ) (r q : Outcome) → Responds limit input r → Responds limit input q → IsOne r q
 one_response limit input r q a b =
     one_decided (List ℕ) (λ s. s ≡ 200) (λ b f. BodyDecides limit f b.rest r) (λ b f. BodyDecides limit f b.rest q) input r q
@@ -144,7 +144,7 @@ one_taken name limit b f r q (inr body) (inl none) = inr (inr none.0)
 one_taken name limit b f r q (inr body) (inr other) =
     one_with_head name b.head body.0 other.0 r q (one_body limit f b.rest body.0 other.0 body.1 other.1) body.2 other.2
 
--- an input has one reply, or memory was refused
+-- an input has one reply, unless an allocation fails
 pub one_reply : (statuses name : List ℕ) (limit : ℕ) (input : List ℕ) (r q : Replied)
     → Replies statuses name limit input r → Replies statuses name limit input q → IsOne r q
 one_reply statuses name limit input r q a b =

@@ -1,4 +1,4 @@
--- A response that is given has a wanted status.
+-- A response that is returned has a wanted status.
 use Rattle.std.proofs.Common.{◌≡◌, ℕ, List, [], Contains, Option, Ok, Err, append-nil, ap, refl, subst, sym, inl, inr}
 use Rattle.httparse.specs.Grammar.{ResponseHead, status_code}
 use Rattle.tl_device.specs.Device.{Passage}

@@ -23,26 +23,26 @@ pub record Sought : Type 0 where
   pub field : Bytes
   pub limit : ℕ
 
--- what a call wants
+-- what a call of `exchange` wants
 abbrev pub sought : Message → ℕ → Sought
 sought m limit = record { statuses = m.statuses.now; field = m.field.now; limit = limit }
 
--- what a call gives, without where the bytes lie in memory, and without whether the connection stays open
+-- the result of a call as a value, without whether the connection stays open
 abbrev pub answered : {A : Type 0} → Result (Response A) HttpFault → Replied
 answered (Ok response) =
     Ok (record { status = response.status; field = value_bytes response.field; body = vec_items response.body })
 answered (Err fault) = Err fault
 
--- the table of a response: that of a reply to POST, but that a response with status 204 or 304 has no body
+-- the response to a request: decided as a reply to POST, except that status 204 and 304 have no body
 abbrev pub Answers : Sought → Bytes → Replied → Type 0
 Answers s input r =
     ResponseDecides (λ status. Contains s.statuses status)
     (λ b framing. ReplyDecides s.field s.limit b (body_framing (status_code b.head) framing) r) input r
 
--- the table of a request, of which the first row that applies decides; i is the reader, o the writer:
---     BadTarget    it can't be sent; nothing is written or read
---     OutOfMemory  memory for its head was refused; nothing is written or read
---     Write        a write failed, after some of the request's first bytes; nothing is read
+-- the result of `exchange`, by the first case that applies; i is the reader, o the writer:
+--     BadTarget    the request can't be sent; nothing is written or read
+--     OutOfMemory  an allocation for its head failed; nothing is written or read
+--     Write        a write failed, after a part of the request; nothing is read
 --     Read         the request was written, and a read failed
 --     else         the request was written, and the response decides
 abbrev pub Exchanges : Sent → Sought → Passage → Passage → Replied → Type 0
@@ -52,8 +52,8 @@ Exchanges m s i o r =
     ⊎ ((r ≡ Err Write) × WrotePart o (sent_text m) × IsUnread i)
     ⊎ (WroteWhole o (sent_text m) × Receives (Answers s) i r))
 
--- what was read begins with a response's head, after interim ones or none, and the connection stays open exactly where
--- it goes on after such a response, and what follows the head is its body and not one byte more
+-- the bytes read begin with a response's head, after interim ones or none. The connection stays open exactly if it
+-- goes on after such a response, and what follows the head is its body and not one byte more
 pub record LeavesOpen (i : Passage) (body : Bytes) (stays_open : Bool) : Type 0 where
   pub text : Bytes
   pub ended : Bool

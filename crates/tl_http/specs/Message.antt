@@ -1,4 +1,4 @@
--- A request with fields of its own (RFC 9110, sections 5.5, 5.6.2 and 9.3; RFC 9112, sections 2.1, 3 and 6).
+-- A request with the caller's own fields (RFC 9110, sections 5.5, 5.6.2 and 9.3; RFC 9112, sections 2.1, 3 and 6).
 use Rattle.std.specs.Prelude.{◌≡◌, ◌≢◌, ◌⊎◌, ◌++◌, Bool, true, false, List, [], ◌∷◌, IsTrue, codes, decimal, length, map, nat_le, if◌then◌else◌}
 use Rattle.std.specs.List.{AllByRecursion, flat_map}
 use Rattle.httparse.specs.Grammar.{is_ows, is_token}
@@ -8,7 +8,7 @@ use Rattle.tl_http.specs.Request.{IsVisible}
 use Rattle.tl_http.specs.declared.message.FieldLine.{FieldLine}
 use Rattle.tl_http.specs.declared.message.Message as declared
 
--- what is sent; a field is its name and its value
+-- a request; a field is its name and its value
 pub record Sent : Type 0 where
   pub method : Bytes
   pub target : Bytes
@@ -19,26 +19,26 @@ pub record Sent : Type 0 where
 abbrev pub field_of : FieldLine → Bytes × Bytes
 field_of f = (f.name.now, f.value.now)
 
--- what a call sends
+-- the request of a call
 abbrev pub sent : declared.Message → Sent
 sent m = record { method = m.method.now; target = m.target.now; fields = map field_of m.fields.now; body = m.body.now }
 
--- whether a value may go on so: visible ASCII characters, and a space or a tab alone behind one of them; the last
--- character is visible. `true` says that one has just gone before
+-- whether these bytes can go on a value: visible ASCII characters, with single spaces or tabs between them, and a
+-- visible one last. `visible` is whether the byte before them is visible
 abbrev pub is_value_after : Bool → Bytes → Bool
 is_value_after visible [] = visible
 is_value_after visible (b ∷ more) =
     if is_ows b then (if visible then is_value_after false more else false)
     else (if nat_le 33 b then (if nat_le b 126 then is_value_after true more else false) else false)
 
--- whether a field may have this value: none, or visible ASCII characters with single spaces or tabs between them
--- (RFC 9110, section 5.5, without characters past ASCII and without longer white space)
+-- whether a field may have this value: an empty one, or visible ASCII characters with single spaces or tabs between
+-- them (RFC 9110, section 5.5, without characters past ASCII and without longer white space)
 abbrev pub is_value : Bytes → Bool
 is_value [] = true
 is_value (b ∷ more) = is_value_after false (b ∷ more)
 
--- the name of a field that says how long the message or the connection is, which is not the caller's to say (RFC 9112,
--- sections 6 and 9.1)
+-- the name of a field that says how long the message is or when the connection ends; the library writes it, not the
+-- caller (RFC 9112, sections 6 and 9.1)
 abbrev pub IsFraming : Bytes → Type 0
 IsFraming name =
     IsSameWord name (codes "content-length") ⊎ IsSameWord name (codes "transfer-encoding")
@@ -50,14 +50,14 @@ pub record IsFieldSendable (field : Bytes × Bytes) : Type 0 where
   pub value : IsTrue (is_value field.1)
   pub free : ¬ (IsFraming field.0)
 
--- a method whose responses have the form of the others (RFC 9110, sections 9.3.2 and 9.3.6): no response to HEAD has a
--- body, and what follows CONNECT is no HTTP
+-- a method whose responses are framed as usual: not HEAD, whose responses have no body, and not CONNECT, which ends
+-- HTTP on the connection (RFC 9110, sections 9.3.2 and 9.3.6)
 pub record IsMethod (method : Bytes) : Type 0 where
   pub token : IsTrue (is_token method)
   pub not_head : method ≢ codes "HEAD"
   pub not_connect : method ≢ codes "CONNECT"
 
--- what can be sent: no part of the head can be read as another part
+-- a request that can be sent: no part of its head can be read as another part
 pub record IsSendable (m : Sent) : Type 0 where
   pub method : IsMethod m.method
   pub visible : IsVisible m.target
@@ -65,16 +65,16 @@ pub record IsSendable (m : Sent) : Type 0 where
   pub rooted : m.target ≡ codes "/" ++ path
   pub each : AllByRecursion IsFieldSendable m.fields
 
--- a field's line
+-- a field's line as it is sent
 abbrev pub field_text : Bytes × Bytes → Bytes
 field_text field = field.0 ++ codes ": " ++ field.1 ++ codes "\r\n"
 
--- the head: the fields as they are, and behind them the length of the body in decimal
+-- the head as it is sent: the caller's fields, and behind them the length of the body in decimal
 unfoldable pub sent_head : Sent → Bytes
 sent_head m =
     m.method ++ codes " " ++ m.target ++ codes " HTTP/1.1\r\n" ++ flat_map field_text m.fields
     ++ codes "content-length: " ++ decimal (length m.body) ++ codes "\r\n\r\n"
 
--- the whole request; nothing says that the connection is to be closed
+-- the whole request as it is sent; no field asks to close the connection
 abbrev pub sent_text : Sent → Bytes
 sent_text m = sent_head m ++ m.body

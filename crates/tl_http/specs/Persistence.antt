@@ -1,4 +1,5 @@
--- Connections that go on after a response (RFC 9112, sections 6.3, 9.3 and 9.6; RFC 9110, sections 7.6.1 and 15.2.2).
+-- Connections that stay open after a response (RFC 9112, sections 6.3, 9.3 and 9.6; RFC 9110, sections 7.6.1 and
+-- 15.2.2).
 use Rattle.std.specs.Prelude.{◌≡◌, ◌≢◌, ℕ, ◌==◌, ◌||◌, ◌++◌, Bool, true, List, [], ◌∷◌, IsTrue, codes, reverse, if◌then◌else◌}
 use Rattle.std.specs.List.{AllByRecursion}
 use Rattle.httparse.specs.Ascii.{comma}
@@ -13,16 +14,17 @@ use Rattle.tl_http.specs.declared.framing.Framing.TheVariants.{Sized}
 abbrev pub is_bodiless : ℕ → Bool
 is_bodiless status = status == 204 || status == 304
 
--- how the body of a response with this status ends, whose fields frame it so
+-- how the body of a response with this status ends, whose fields frame it like this
 abbrev pub body_framing : ℕ → Framing → Framing
 body_framing status framing = if is_bodiless status then Sized 0 else framing
 
--- whether nothing but blanks comes before the text's end or a comma
+-- whether only spaces and tabs come before the text's end or a comma
 abbrev pub is_item_end : Bytes → Bool
 is_item_end [] = true
 is_item_end (b ∷ more) = if is_ows b then is_item_end more else b == comma
 
--- the value is a list with commas between its words, of which one is `close` in any case (RFC 9110, section 5.6.1)
+-- the value is a list of words with commas between them, and one of them is `close` in any case (RFC 9110, section
+-- 5.6.1)
 pub record NamesClose (value : Bytes) : Type 0 where
   pub before : Bytes
   pub word : Bytes
@@ -32,9 +34,8 @@ pub record NamesClose (value : Bytes) : Type 0 where
   pub first : IsTrue (is_item_end (reverse before))
   pub last : IsTrue (is_item_end after)
 
--- the connection goes on after a response over HTTP/1 with this minor version, status and fields, whose body is framed
--- so: it is of HTTP/1.1 and changes no protocol, no field Connection names `close`, and the head says how long the body
--- is
+-- the connection goes on after a response over HTTP/1 with this minor version, status, fields and framing: it is of
+-- HTTP/1.1 and changes no protocol, no field Connection names `close`, and the head says how long the body is
 pub record Persists (minor status : ℕ) (fields : List (Bytes × Bytes)) (framing : Framing) : Type 0 where
   pub version : minor ≡ 1
   pub protocol : status ≢ 101

@@ -1,4 +1,4 @@
--- What comes of a response (RFC 9112, sections 4, 6 and 7).
+-- What a response gives (RFC 9112, sections 4, 6 and 7).
 use Rattle.std.specs.Prelude.{◌≡◌, ◌≢◌, ◌⊎◌, ℕ, ◌+◌, ◌<◌, ◌≤◌, List, Result, Ok, Err, ◌++◌, All, length, take, vec_items}
 use Rattle.std.specs.List.{flat_map}
 use Rattle.std.specs.declared.vec.Vec.{Vec}
@@ -12,24 +12,24 @@ use Rattle.tl_http.specs.declared.fault.HttpFault.TheVariants.{NoHead, Version, 
 use Rattle.tl_http.specs.declared.framing.Framing.{Framing}
 use Rattle.tl_http.specs.declared.framing.Framing.TheVariants.{Sized, UntilEnd, Chunked}
 
--- this where the fact fails, and the rest of the table where it holds
+-- `otherwise` if the fact doesn't hold, and the rest of the table if it does
 abbrev pub Unless : Type 0 → Type 0 → Type 0 → Type 0
 Unless fact otherwise rest = (¬ fact × otherwise) ⊎ (fact × rest)
 
--- this where nothing is such, and the rest of the table, of something that is
+-- `otherwise` if there is nothing such, and the rest of the table, of something such, if there is
 abbrev pub UnlessSome : {A : Type 0} → (A → Type 0) → Type 0 → (A → Type 0) → Type 0
 UnlessSome {A} such otherwise rest = (((a : A) → ¬ (such a)) × otherwise) ⊎ ((a : A) × such a × rest a)
 
--- what a call gives: the bytes of a body, or why there is none
+-- what a call returns: the bytes of a body, or why there is none
 abbrev pub Outcome : Type 0
 Outcome = Result Bytes HttpFault
 
--- the same without where the bytes lie in memory
+-- the result of a call as a value: bytes instead of a list in memory
 abbrev pub outcome : {A : Type 0} → Result (Vec ℕ A) HttpFault → Outcome
 outcome (Ok body) = Ok (vec_items body)
 outcome (Err fault) = Err fault
 
--- a status of interim responses, without the one that changes protocols (RFC 9110, section 15.2)
+-- the status of an interim response, except 101, Switching Protocols (RFC 9110, section 15.2)
 abbrev pub IsInterimStatus : ℕ → Type 0
 IsInterimStatus status = (100 ≤ status) × (status < 200) × (status ≢ 101)
 
@@ -39,12 +39,12 @@ pub record IsInterim (head : ResponseHead) : Type 0 where
   pub status : IsInterimStatus (status_code head)
   pub few : length head.fields ≤ 64
 
--- a head that an input has, and what follows it
+-- the head that an input has, and what follows it
 pub record Begun : Type 0 where
   pub head : ResponseHead
   pub rest : Bytes
 
--- the input begins with some interim heads or none, and then this head; they have at most 8,192 bytes together, and 64
+-- the input begins with interim heads or none, and then this head; they have at most 8,192 bytes together, and 64
 -- fields each. A line may end in a line feed alone, and empty lines may come first (RFC 9112, section 2.2)
 pub record Begins (input : Bytes) (b : Begun) : Type 0 where
   pub interim : List ResponseHead
@@ -56,48 +56,48 @@ pub record Begins (input : Bytes) (b : Begun) : Type 0 where
   pub short : length (flat_map print_response interim) + length (print_response b.head) ≤ 8192
   pub few : length b.head.fields ≤ 64
 
--- a growth was refused: a body of at most so many bytes was to be read, of which some came
+-- an allocation failed while a body of at most `most` bytes was read, of which some came
 abbrev pub LacksMemory : ℕ → Bytes → Outcome → Type 0
 LacksMemory most rest r = (r ≡ Err OutOfMemory) × (0 < most) × (0 < length rest)
 
--- why the line of a chunk isn't there
+-- why there is no chunk's line
 abbrev pub LineDecides : Bytes → Outcome → Type 0
 LineDecides rest r = ((r ≡ Err Short) × IsCutLine rest) ⊎ ((r ≡ Err BadChunk) × LacksLine rest)
 
--- why so many bytes of data and the CR LF after them aren't there
+-- why n bytes of data and the CR LF after them couldn't be read
 abbrev pub DataDecides : ℕ → Bytes → Outcome → Type 0
 DataDecides n rest r =
     LacksMemory n rest r
     ⊎ ((r ≡ Err Short) × IsCutData n rest)
     ⊎ ((r ≡ Err BadChunk) × LacksEnd n rest)
 
--- what follows the line of a chunk of n bytes, after chunks with these data
+-- what follows the line of a chunk of n bytes decides, after chunks with these data
 abbrev pub SizeDecides : ℕ → Bytes → ℕ → Bytes → Outcome → Type 0
 SizeDecides limit content n rest r =
     ((r ≡ Ok content) × (n ≡ 0))
     ⊎ ((r ≡ Err TooLarge) × (limit < length content + n))
     ⊎ ((0 < n) × (length content + n ≤ limit) × DataDecides n rest r)
 
--- what follows chunks with these data: no line, or one and what follows it
+-- what follows chunks with these data decides: no line, or a line and what follows it
 abbrev pub ChunkDecides : ℕ → Bytes → Bytes → Outcome → Type 0
 ChunkDecides limit content rest r =
     LineDecides rest r
     ⊎ ((line : Bytes) × (after : Bytes) × (n : ℕ) × (rest ≡ line ++ after) × IsLine line n × SizeDecides limit content n after r)
 
--- the table of a chunked body: some chunks within the limit come first, and then
---     Short        the input ends inside the line of the next chunk
---     BadChunk     no line of a chunk comes, or none of at most 256 bytes
+-- the result for a chunked body. It begins with chunks within the limit, and then comes
+--     Short        a part of the next chunk's line, with which the input ends
+--     BadChunk     no chunk's line, or none of at most 256 bytes
 --     Ok           the line of the last chunk, which has no data; whatever follows it isn't read
 --     TooLarge     the line of a chunk with which the data are more than the limit
---     OutOfMemory  the line of a chunk, of which some data came, and a growth for them was refused
+--     OutOfMemory  the line of a chunk and some of its data, and an allocation for them failed
 --     Short        the line of a chunk, and the input ends before the CR LF after its data
---     BadChunk     the line of a chunk, of which the data don't end in CR LF
+--     BadChunk     the line of a chunk, whose data don't end in CR LF
 abbrev pub ChunksDecide : ℕ → Bytes → Outcome → Type 0
 ChunksDecide limit input r =
     (chunks : List Chunk) × (rest : Bytes) × HasChunks limit input chunks rest
     × ChunkDecides limit (chunks_content chunks) rest r
 
--- the last rows of the table, for what follows the head
+-- the result for what follows the head: the last cases of the table
 abbrev pub BodyDecides : ℕ → Framing → Bytes → Outcome → Type 0
 BodyDecides limit (Sized n) rest r =
     Unless (n ≤ limit) (r ≡ Err TooLarge)
@@ -110,8 +110,8 @@ BodyDecides limit UntilEnd rest r =
     (r ≡ Ok rest)
 BodyDecides limit Chunked rest r = ChunksDecide limit rest r
 
--- the rows of a head, with its minor version, status and fields: which statuses are wanted, and what decides where the
--- body is taken that the head frames
+-- the result for a head with this minor version, status and fields, if these statuses are wanted; `Taken` decides if
+-- the body can be read
 abbrev pub HeadDecides : {R : Type 0} → (ℕ → Type 0) → ℕ → ℕ → List (Bytes × Bytes)
     → (Framing → Type 0) → Result R HttpFault → Type 0
 HeadDecides Wanted minor status fields Taken r =
@@ -120,27 +120,27 @@ HeadDecides Wanted minor status fields Taken r =
     (Unless (IsPlain minor fields) (r ≡ Err Encoded)
     (UnlessSome (HasFraming fields) (r ≡ Err BadLength) Taken)))
 
--- the table of what comes of an input, of which the first row that applies decides:
+-- the result for an input, by the first case that applies:
 --     NoHead       the input doesn't begin with the head of a response, after interim ones or none
 --     Version      the head is of a later version than HTTP/1.1
 --     Status       its status isn't wanted
---     Encoded      it has fields Transfer-Encoding, and not `chunked` once over HTTP/1.1, or Content-Encoding and not
---                  `identity` once
+--     Encoded      it has a field Transfer-Encoding that isn't `chunked` once over HTTP/1.1, or a Content-Encoding
+--                  that isn't `identity` once
 --     BadLength    it has fields Content-Length that aren't one number below 2^63, or one beside Transfer-Encoding
--- and then what decides of the head, what follows it and its framing
+--     else         `Taken` decides, of the head, what follows it and its framing
 abbrev pub ResponseDecides : {R : Type 0} → (ℕ → Type 0)
     → (Begun → Framing → Type 0) → Bytes → Result R HttpFault → Type 0
 ResponseDecides Wanted Taken input r =
     UnlessSome (Begins input) (r ≡ Err NoHead) (λ b.
     HeadDecides Wanted b.head.minor (status_code b.head) (fields_of b.head.fields) (Taken b) r)
 
--- that table where status 200 is wanted, and the body alone. Its last rows are, of a body in chunks, the table above,
--- or else:
---     TooLarge     the number is above the limit
---     OutOfMemory  some of the body came, and a growth for it was refused
---     TooLarge     without a number, more bytes than the limit follow the head
---     Short        the input ends before so many bytes
---     Ok           else: so many bytes after the head, or without a number all
+-- the result of a response to GET: the same table if status 200 alone is wanted. Its last cases are, for a chunked
+-- body, those of `ChunksDecide`, or else:
+--     TooLarge     the length is above the limit
+--     OutOfMemory  some of the body came, and an allocation for it failed
+--     TooLarge     there is no length, and more bytes than the limit follow the head
+--     Short        the input ends before the body does
+--     Ok           else: the bytes of that length after the head, or all if there is no length
 abbrev pub Responds : ℕ → Bytes → Outcome → Type 0
 Responds limit input r =
     ResponseDecides (λ status. status ≡ 200) (λ b framing. BodyDecides limit framing b.rest r) input r

@@ -1,4 +1,4 @@
-//! What the head of a response announces.
+//! What the head of a response says of its body.
 
 ghost use Rattle.std.specs.Prelude.{◌↔◌, Contains, IsTrue, map, take};
 ghost use Rattle.httparse.specs.Spans.{IsResponseWithin, header_bytes};
@@ -9,15 +9,15 @@ use crate::fields::has_no_coding;
 use crate::framing::{Framing, framing_in};
 use httparse::spans::{HeaderSpan, ResponseSpans};
 
-// Whether a status is one of these.
+// Reports whether a status is one of these.
 fn is_wanted(statuses: &[u16], status: u16) -> bool
     ensures { IsTrue result ↔ Contains statuses.now status }
 {
     statuses.contains(&status)
 }
 
-/// How the body is framed that the head at the front of these bytes announces, with one of these statuses, or
-/// why none is taken.
+/// Returns how the body is framed, from the head at the front of these bytes. `GetFault` says why the body isn't
+/// read: a later version, a status other than these, a coding, or a length that isn't clear.
 pub(crate) fn announced(
     bytes: &[u8],
     headers: &[HeaderSpan],

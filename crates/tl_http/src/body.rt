@@ -16,20 +16,20 @@ use std::alloc::Allocator;
 use std::io::Read;
 use tl_device::Counted;
 
-// What came of reading a body.
+// The result of reading a body.
 #[derive(Drop)]
 pub(crate) enum Body<A: Allocator> {
     // A read failed.
     Failed,
-    // A growth was refused.
+    // An allocation failed.
     NoMemory,
-    // The input ended with so few bytes.
+    // The input ended after these bytes, fewer than were wanted.
     Ended(Vec<u8, A>),
-    // As many bytes as were wanted.
+    // All bytes that were wanted.
     Full(Vec<u8, A>),
 }
 
-// Reads a body up to so many bytes, of which the first may have come with the head. It grows as they come.
+// Reads up to `most` bytes of a body, of which the first may have come with the head. The list grows as they come.
 fn read_up_to<A: Allocator + Copy, I: Read>(
     alloc: A,
     reader: &mut Counted<I>,
@@ -59,7 +59,7 @@ fn read_up_to<A: Allocator + Copy, I: Read>(
     Body::Full(body)
 }
 
-// Whether the input has ended. None where a read failed.
+// Reports whether the input has ended. `None` if a read failed.
 fn has_ended<I: Read>(reader: &mut Counted<I>) -> Option<bool>
     ensures { TellsEnd (passage I.remaining reader.old reader.new) result }
 {
@@ -70,7 +70,7 @@ fn has_ended<I: Read>(reader: &mut Counted<I>) -> Option<bool>
     }
 }
 
-// Reads a body of so many bytes.
+// Reads a body of `len` bytes.
 fn read_sized<A: Allocator + Copy, I: Read>(
     alloc: A,
     reader: &mut Counted<I>,
@@ -90,7 +90,7 @@ fn read_sized<A: Allocator + Copy, I: Read>(
     }
 }
 
-// Reads a body up to the end of the input.
+// Reads a body up to the end of the input, at most `limit` bytes.
 fn read_rest<A: Allocator + Copy, I: Read>(
     alloc: A,
     reader: &mut Counted<I>,
@@ -116,7 +116,7 @@ fn read_rest<A: Allocator + Copy, I: Read>(
     }
 }
 
-/// Reads the body that follows a head, of which the first bytes may have come with it.
+/// Reads the body that follows a head. `begun` is the part that came with the head.
 pub(crate) fn read_body<A: Allocator + Copy, I: Read>(
     alloc: A,
     reader: &mut Counted<I>,

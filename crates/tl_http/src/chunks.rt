@@ -17,18 +17,18 @@ use tl_device::Counted;
 // The most bytes of a chunk's line.
 const MOST_LINE: usize = 256;
 
-// What bytes begin with.
+// What some bytes begin with.
 #[derive(Clone, Copy)]
 pub(crate) enum Line {
-    // The line of a chunk, of so many bytes and with this size.
+    // A chunk's line of this many bytes, with this size.
     Whole(usize, u64),
-    // The beginning of one; more may come.
+    // The beginning of such a line; more may come.
     Cut,
-    // No line, whatever follows.
+    // No such line, whatever follows.
     Lacking,
 }
 
-// The line of a chunk in front of the bytes.
+// Returns the chunk's line at the front of the bytes.
 fn line_in(bytes: &[u8]) -> Line
     ensures { FindsLine bytes.now result }
 {
@@ -44,7 +44,7 @@ fn line_in(bytes: &[u8]) -> Line
     }
 }
 
-// Reads the line of a chunk, and gives its size.
+// Reads a chunk's line, and returns its size.
 fn read_line<I: Read>(reader: &mut Counted<I>, window: &mut Window) -> Result<u64, HttpFault>
     ensures { ReadsLine (passage I.remaining reader.old reader.new) window.old window.new result }
 {
@@ -65,7 +65,7 @@ fn read_line<I: Read>(reader: &mut Counted<I>, window: &mut Window) -> Result<u6
     }
 }
 
-// Reads this byte.
+// Reads one byte, which has to be `wanted`.
 fn read_byte<I: Read>(
     reader: &mut Counted<I>,
     window: &mut Window,
@@ -87,7 +87,7 @@ fn read_byte<I: Read>(
     Ok(())
 }
 
-// Reads so many bytes onto a body that is to have at most `most`.
+// Reads `size` bytes and appends them to a body, which has at most `most` bytes then.
 fn read_data<A: Allocator + Copy, I: Read>(
     alloc: A,
     reader: &mut Counted<I>,
@@ -118,7 +118,7 @@ fn read_data<A: Allocator + Copy, I: Read>(
     Ok(())
 }
 
-// Reads a chunk's data onto a body that is to have at most `most` bytes, and the CR LF after them.
+// Reads a chunk's data, appends them to a body, which has at most `most` bytes then, and reads the CR LF after them.
 fn read_chunk<A: Allocator + Copy, I: Read>(
     alloc: A,
     reader: &mut Counted<I>,
@@ -137,8 +137,8 @@ fn read_chunk<A: Allocator + Copy, I: Read>(
     Ok(())
 }
 
-/// Reads a body in chunks, of which the first bytes may have come with the head, up to the line of the last chunk. It
-/// grows as it comes. What follows that line, such as trailers, isn't read: the connection is closed then.
+/// Reads a chunked body up to the line of its last chunk. `begun` is the part that came with the head. The list grows
+/// as the data come. What follows that line, such as trailers, isn't read: the connection is closed then.
 pub(crate) fn read_chunks<A: Allocator + Copy, I: Read>(
     alloc: A,
     reader: &mut Counted<I>,

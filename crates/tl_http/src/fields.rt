@@ -15,10 +15,10 @@ use crate::growth::append;
 use httparse::spans::HeaderSpan;
 use std::alloc::{AllocError, Allocator};
 
-// The end of what a length may be.
+// The first number that is too large for a length.
 const END_OF_LENGTHS: u64 = 1 << 63;
 
-/// Whether no field has this name, whose case doesn't matter.
+/// Reports whether no field has this name, in any case.
 pub(crate) fn lacks_field(buf: &[u8], headers: &[HeaderSpan], name: &[u8]) -> bool
     requires { All (IsHeaderWithin (length buf.now)) headers.now }
     ensures { IsTrue result ↔ (values_of name.now (map (header_bytes buf.now) headers.now) ≡ []) }
@@ -26,8 +26,8 @@ pub(crate) fn lacks_field(buf: &[u8], headers: &[HeaderSpan], name: &[u8]) -> bo
     matches!(values_in(buf, headers, name), Values::None)
 }
 
-/// A copy of the value of the one field with this name, or `None` where there is no such field or more than one. It
-/// fails only where a growth for some bytes was refused.
+/// Copies the value of the one field with this name. `None` if there is no such field or more than one. It fails only
+/// when an allocation for some bytes fails.
 pub(crate) fn copy_value<A: Allocator + Copy>(
     alloc: A,
     buf: &[u8],
@@ -46,7 +46,7 @@ pub(crate) fn copy_value<A: Allocator + Copy>(
     Ok(Some(copy))
 }
 
-/// Whether no field Content-Encoding is there, or one that says that there is no coding.
+/// Reports whether the body has no content coding: no field Content-Encoding, or one with the value `identity`.
 pub(crate) fn has_no_coding(buf: &[u8], headers: &[HeaderSpan]) -> bool
     requires { All (IsHeaderWithin (length buf.now)) headers.now }
     ensures { IsTrue result ↔ IsIdentity
@@ -59,7 +59,7 @@ pub(crate) fn has_no_coding(buf: &[u8], headers: &[HeaderSpan]) -> bool
     }
 }
 
-/// Whether one field Transfer-Encoding is there, which says that the body comes in chunks.
+/// Reports whether there is one field Transfer-Encoding, with the value `chunked`.
 pub(crate) fn is_chunked(buf: &[u8], headers: &[HeaderSpan]) -> bool
     requires { All (IsHeaderWithin (length buf.now)) headers.now }
     ensures { IsTrue result ↔ IsChunked
@@ -72,7 +72,7 @@ pub(crate) fn is_chunked(buf: &[u8], headers: &[HeaderSpan]) -> bool
     }
 }
 
-// The number below 2^63 that digits write. None where the text is no digits, or the number is larger.
+// Returns the number that digits write. `None` if the text isn't digits or the number is 2^63 or more.
 fn length_of(text: &[u8]) -> Option<u64>
     ensures { MatchOption result ((n : ℕ) → ¬ (IsLength n text.now)) (λ n. IsLength n text.now) }
 {
@@ -82,7 +82,7 @@ fn length_of(text: &[u8]) -> Option<u64>
     }
 }
 
-// What one value more of Content-Length announces, in front of what the others announce.
+// Joins one value of Content-Length with what the values after it announce.
 fn with_value(text: &[u8], below: Result<Option<u64>, HttpFault>) -> Result<Option<u64>, HttpFault>
     ensures { (values : List Bytes)
         → SaysLength values below → SaysLength (text.now ∷ values) result }
@@ -106,7 +106,8 @@ fn with_value(text: &[u8], below: Result<Option<u64>, HttpFault>) -> Result<Opti
     }
 }
 
-/// The length of the body that the fields announce, or none where no field does. `BadLength` where they aren't clear.
+/// Returns the length of the body that the fields announce, or `None` if no field does. `BadLength` if they aren't
+/// one number below 2^63.
 pub(crate) fn length_in(buf: &[u8], headers: &[HeaderSpan]) -> Result<Option<u64>, HttpFault>
     requires { All (IsHeaderWithin (length buf.now)) headers.now }
     ensures { SaysLength

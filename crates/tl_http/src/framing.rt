@@ -1,4 +1,4 @@
-//! How the length of a body is found.
+//! How the end of a body is found.
 
 ghost use Rattle.std.specs.Prelude.{length, map, All};
 ghost use Rattle.httparse.specs.Spans.{IsHeaderWithin, header_bytes};
@@ -8,19 +8,19 @@ use crate::fault::HttpFault;
 use crate::fields::{is_chunked, lacks_field, length_in};
 use httparse::spans::HeaderSpan;
 
-/// How the length of a body is found (RFC 9112, section 6.3).
+/// How the end of a body is found (RFC 9112, section 6.3).
 #[derive(Clone, Copy)]
 pub(crate) enum Framing {
-    /// It has so many bytes.
+    /// It has this many bytes.
     Sized(u64),
     /// It goes on to the end of the input.
     UntilEnd,
-    /// It comes in chunks, of which each tells its length.
+    /// It comes in chunks, each with its length.
     Chunked,
 }
 
-/// How the fields of a head with this minor version frame its body. `Encoded` where a field Transfer-Encoding says more
-/// than `chunked`, or comes with HTTP/1.0; `BadLength` where the length isn't clear.
+/// Returns how the fields frame the body, in a head with this minor version. `Encoded` if a field Transfer-Encoding
+/// has another value than `chunked`, or comes with HTTP/1.0. `BadLength` if the length isn't clear.
 pub(crate) fn framing_in(
     buf: &[u8],
     headers: &[HeaderSpan],

@@ -15,7 +15,7 @@ use std::alloc::Allocator;
 use std::io::{Read, Write};
 use tl_device::Counted;
 
-// Reads a response with status 200.
+// Reads a response with status 200, and returns its body.
 fn read_response<A: Allocator + Copy, I: Read>(
     alloc: A,
     reader: &mut Counted<I>,
@@ -41,11 +41,10 @@ fn read_response<A: Allocator + Copy, I: Read>(
     }
 }
 
-/// Asks a host for a target over HTTP/1.1 by GET, and gives the body of the response with status 200, at most `limit`
-/// bytes: the data of its chunks, its `Content-Length` bytes, or else all up to the end of the input (RFC 9110, section
-/// 9.3.1; RFC 9112, sections 6.3 and 7.1). `HttpFault` says in its order when there is none. Interim responses are
-/// passed over, no redirect followed, no coding taken. The body grows as it comes. No trailers are read; the connection
-/// is of no use then.
+/// Sends a GET request over HTTP/1.1 for `target` of `host`, and returns the body of the response if its status is
+/// 200. The body has at most `limit` bytes: the data of its chunks, `Content-Length` bytes, or else all up to the end
+/// of the input (RFC 9110, section 9.3.1; RFC 9112, sections 6.3 and 7.1). Interim responses are skipped. Redirects
+/// aren't followed, and codings aren't decoded. Trailers aren't read. The connection can't be used again.
 pub fn get<A: Allocator + Copy, I: Read, O: Write>(
     alloc: A,
     reader: &mut Counted<I>,

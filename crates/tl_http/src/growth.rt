@@ -1,10 +1,10 @@
-//! A body that grows as it comes.
+//! A body that grows as its bytes come.
 
 ghost use Rattle.std.specs.Prelude.{◌≡◌, ◌+◌, ◌<◌, ◌≤◌, ◌++◌, OnOk, OnErr, length, vec_len, vec_capacity};
 
 use std::alloc::{AllocError, Allocator};
 
-// Makes room for so many bytes more of a body that is to have at most `most`. The room doubles, up to those.
+// Makes room for `more` bytes in a body that has at most `most`. The room doubles, up to `most`.
 fn make_room<A: Allocator + Copy>(
     alloc: A,
     body: &mut Vec<u8, A>,
@@ -27,7 +27,7 @@ fn make_room<A: Allocator + Copy>(
     Ok(())
 }
 
-/// Appends bytes to a body that is to have at most `most`.
+/// Appends bytes to a body, which has at most `most` bytes then.
 pub(crate) fn append<A: Allocator + Copy>(
     alloc: A,
     body: &mut Vec<u8, A>,

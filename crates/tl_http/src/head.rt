@@ -10,35 +10,36 @@ use httparse::spans::{HeaderSpan, ResponseSpans, parse_response};
 use std::io::Read;
 use tl_device::Counted;
 
-/// The most bytes of a head and the interim ones before it.
+/// The most bytes of a head with the interim heads before it.
 pub(crate) const MOST_HEAD: usize = 8192;
 
 /// The most fields of a head.
 pub(crate) const MOST_FIELDS: usize = 64;
 
-/// What a reader gave in front of a body.
+/// The result of reading a head.
 #[derive(Clone, Copy)]
 pub(crate) enum HeadRead {
     /// A read failed.
     Failed,
-    /// No head within the limits.
+    /// There is no head within the limits.
     Missing,
-    /// A head, with where it begins, how many bytes were read in all, and where its parts are from its beginning on.
+    /// A head: the place where it begins, how many bytes were read in all, and where its parts are, counted from
+    /// there.
     Head(usize, usize, ResponseSpans),
 }
 
-// What the parser says of bytes.
+// What the parser reports of some bytes.
 #[derive(Clone, Copy)]
 pub(crate) enum Parsed {
     // They begin with a head.
     Whole(ResponseSpans),
-    // They begin with no head; more may come.
+    // They don't hold a whole head; more may come.
     Partial,
-    // Whatever follows, they begin with no head of so few fields.
+    // They begin with no head of at most 64 fields, whatever follows.
     Refused,
 }
 
-// Parses bytes.
+// Parses bytes as the head of a response.
 fn parse(bytes: &[u8], headers: &mut [HeaderSpan]) -> Parsed
     requires { length headers.old ≡ 64 }
     ensures { Parses bytes.now headers.new result }
@@ -50,14 +51,15 @@ fn parse(bytes: &[u8], headers: &mut [HeaderSpan]) -> Parsed
     }
 }
 
-// Whether a response with this status comes before another one, and changes no protocol.
+// Reports whether a response with this status is interim, and isn't 101 (Switching Protocols).
 fn is_interim(status: u16) -> bool
     ensures { IsTrue result ↔ IsInterimStatus status }
 {
     status >= 100 && status < 200 && status != 101
 }
 
-/// Reads until the bytes hold a head after interim ones, can hold none, are as many as they may be, or end.
+/// Reads until the bytes hold a head after interim ones or can't hold one, until the buffer is full, or until the
+/// input ends.
 pub(crate) fn read_head<I: Read>(
     reader: &mut Counted<I>,
     buf: &mut [u8],

@@ -1,4 +1,4 @@
-//! One request in the caller's form and its response, over a connection that may be kept.
+//! One request in the caller's form, over a connection that may be kept.
 
 ghost use Rattle.std.specs.Prelude.{◌↔◌, ◌≤◌, IfOk, IsTrue, length};
 ghost use Rattle.tl_device.specs.Device.{passage};
@@ -20,14 +20,14 @@ use std::alloc::Allocator;
 use std::io::{Read, Write};
 use tl_device::Counted;
 
-// Whether a connection that may go on has given no byte behind a body of which these bytes came with its head.
+// Reports whether the connection stays open: it goes on, and no byte behind the body came with the head.
 fn is_left_open(goes_on: bool, begun: &[u8], body: &[u8]) -> bool
     ensures open { IsTrue result ↔ (IsTrue goes_on × (length begun.now ≤ length body.now)) }
 {
     goes_on && begun.len() <= body.len()
 }
 
-// Reads a response that is wanted.
+// Reads a response with a wanted status.
 fn read_answer<A: Allocator + Copy, I: Read>(
     alloc: A,
     reader: &mut Counted<I>,
@@ -59,11 +59,11 @@ fn read_answer<A: Allocator + Copy, I: Read>(
     })
 }
 
-/// Sends a request in the caller's form over HTTP/1.1, and gives a response with a wanted status, whose body, of at
-/// most `limit` bytes, is read as that of `post` is; 204 and 304 have none (RFC 9112, section 6.3). `stays_open` tells
-/// whether the connection can carry another request (section 9.3). `HttpFault` says in its order when there is no
-/// response. Interim responses are passed over, no redirect followed, no coding taken. After a fault the connection is
-/// of no use; what the server did isn't known.
+/// Sends the caller's own request over HTTP/1.1, and returns a response with a wanted status. Its body, at most
+/// `limit` bytes, is read as by `post`; status 204 and 304 have none (RFC 9112, section 6.3). `stays_open` reports
+/// whether the connection can carry another request (section 9.3). Interim responses are skipped. Redirects aren't
+/// followed, and codings aren't decoded. After a fault the connection can't be used again, and the server may have
+/// acted on the request.
 pub fn exchange<A: Allocator + Copy, I: Read, O: Write>(
     alloc: A,
     reader: &mut Counted<I>,

@@ -12,10 +12,10 @@ use crate::framing::Framing;
 use httparse::is_space_or_tab;
 use httparse::spans::{HeaderSpan, ResponseSpans};
 
-// The option of a field Connection that closes it.
+// The option of the field Connection that closes a connection.
 const CLOSE: &[u8; 5] = b"close";
 
-/// How the body of a response with this status ends, whose fields frame it so.
+/// Returns how the body ends: a response with status 204 or 304 has none, whatever its fields say.
 pub(crate) fn body_framing(status: u16, framing: Framing) -> Framing
     ensures framing { result ≡ spec.body_framing status framing }
 {
@@ -25,7 +25,7 @@ pub(crate) fn body_framing(status: u16, framing: Framing) -> Framing
     framing
 }
 
-// Whether nothing but blanks comes before the text's end or a comma.
+// Reports whether only spaces and tabs come before the end of the text or a comma.
 fn is_item_end(text: &[u8]) -> bool
     ensures end { result ≡ spec.is_item_end text.now }
 {
@@ -37,7 +37,7 @@ fn is_item_end(text: &[u8]) -> bool
     true
 }
 
-// The same of what comes behind the text's beginning or a comma.
+// Reports whether only spaces and tabs stand between the end of the text and a comma before it, or its beginning.
 fn is_item_start(text: &[u8]) -> bool
     ensures start { result ≡ spec.is_item_end (reverse text.now) }
 {
@@ -50,7 +50,7 @@ fn is_item_start(text: &[u8]) -> bool
     is_item_start(rest)
 }
 
-// Whether the option that closes a connection stands at a place of a value.
+// Reports whether the option `close` stands at this index of a value.
 fn names_close_at(value: &[u8], start: usize) -> bool
     requires within { start ≤ length value.now }
     ensures close { IsTrue result ↔ NamesCloseAt value.now start }
@@ -69,7 +69,7 @@ fn names_close_at(value: &[u8], start: usize) -> bool
     is_item_end(after)
 }
 
-// Whether a value names that option.
+// Reports whether a value names the option `close`.
 fn names_close(value: &[u8]) -> bool
     ensures close { IsTrue result ↔ NamesClose value.now }
 {
@@ -81,7 +81,7 @@ fn names_close(value: &[u8]) -> bool
     false
 }
 
-// Whether no field Connection names that option.
+// Reports whether no field Connection names the option `close`.
 fn lacks_close(buf: &[u8], headers: &[HeaderSpan]) -> bool
     requires { All (IsHeaderWithin (length buf.now)) headers.now }
     ensures unclosed { IsTrue result ↔ AllByRecursion (λ value. ¬ (NamesClose value))
@@ -97,8 +97,8 @@ fn lacks_close(buf: &[u8], headers: &[HeaderSpan]) -> bool
     !names_close(first.value.of(buf)) && below
 }
 
-/// Whether a connection goes on after the response whose head is at the front of these bytes, and whose body is framed
-/// so.
+/// Reports whether the connection goes on after a response with the head at the front of these bytes and a body
+/// framed like this.
 pub(crate) fn persists(
     bytes: &[u8],
     headers: &[HeaderSpan],

@@ -17,7 +17,7 @@ use std::alloc::Allocator;
 use std::io::{Read, Write};
 use tl_device::Counted;
 
-// Reads a response with one of these statuses, and its field with this name.
+// Reads a response with one of these statuses, and the value of its field with this name.
 fn read_reply<A: Allocator + Copy, I: Read>(
     alloc: A,
     reader: &mut Counted<I>,
@@ -42,10 +42,10 @@ fn read_reply<A: Allocator + Copy, I: Read>(
     })
 }
 
-/// Asks a host over HTTP/1.1 by POST, and gives a response with a wanted status: its status, the value of the wanted
-/// field, and its body, at most `limit` bytes, which is read as that of `get` is (RFC 9110, section 9.3.3; RFC 9112,
-/// sections 6.3 and 7.1). `HttpFault` says in its order when there is none. Interim responses are passed over, no
-/// redirect followed, no coding taken. No trailers are read; the connection is of no use then.
+/// Sends a POST request over HTTP/1.1, and returns a response with a wanted status: its status, the value of the
+/// wanted field, and its body. The body has at most `limit` bytes, and is read as by `get` (RFC 9110, section 9.3.3;
+/// RFC 9112, sections 6.3 and 7.1). Interim responses are skipped. Redirects aren't followed, and codings aren't
+/// decoded. Trailers aren't read. The connection can't be used again.
 pub fn post<A: Allocator + Copy, I: Read, O: Write>(
     alloc: A,
     reader: &mut Counted<I>,

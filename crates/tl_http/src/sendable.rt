@@ -9,7 +9,7 @@ use crate::message::{FieldLine, Message};
 use crate::target::is_visible;
 use httparse::{is_space_or_tab, is_token};
 
-// Whether a field may have this value.
+// Reports whether a field may have this value.
 fn is_value(text: &[u8]) -> bool
     ensures value { result ≡ spec.is_value text.now }
 {
@@ -27,7 +27,7 @@ fn is_value(text: &[u8]) -> bool
     text.is_empty() || visible
 }
 
-// Whether a field with this name says how long the message or the connection is.
+// Reports whether a field with this name frames the message or says when the connection ends.
 fn is_framing(name: &[u8]) -> bool
     ensures framing { IsTrue result ↔ IsFraming name.now }
 {
@@ -36,7 +36,7 @@ fn is_framing(name: &[u8]) -> bool
         || name.eq_ignore_ascii_case(b"connection")
 }
 
-// Whether a field can be sent.
+// Reports whether a field can be sent.
 fn is_field_sendable(field: &FieldLine<'_>) -> bool
     ensures sendable { IsTrue result ↔ IsFieldSendable (field_of field.now) }
 {
@@ -44,7 +44,7 @@ fn is_field_sendable(field: &FieldLine<'_>) -> bool
     is_token(name) && is_value(field.value.as_bytes()) && !is_framing(name)
 }
 
-// Whether each of the fields can be sent.
+// Reports whether each of the fields can be sent.
 fn are_fields_sendable(fields: &[FieldLine<'_>]) -> bool
     ensures each { IsTrue result ↔ AllByRecursion IsFieldSendable (map field_of fields.now) }
 {
@@ -57,14 +57,14 @@ fn are_fields_sendable(fields: &[FieldLine<'_>]) -> bool
     are_fields_sendable(rest)
 }
 
-// Whether a method's responses have the form of the others.
+// Reports whether a method's responses are framed as usual. Those of HEAD and CONNECT aren't.
 fn is_method(method: &str) -> bool
     ensures method { IsTrue result ↔ IsMethod method.now }
 {
     is_token(method.as_bytes()) && method != "HEAD" && method != "CONNECT"
 }
 
-/// Whether a request can be sent.
+/// Reports whether a request can be sent.
 pub(crate) fn is_sendable(message: &Message<'_>) -> bool
     ensures sendable { IsTrue result ↔ IsSendable (sent message.now) }
 {

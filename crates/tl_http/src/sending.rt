@@ -1,4 +1,4 @@
-//! Requests, written with as few calls as can be and without memory.
+//! Writing requests, with few calls and without allocation.
 
 ghost use Rattle.std.specs.Prelude.{◌≡◌, ◌++◌, OnOk, OnErr};
 ghost use Rattle.tl_device.specs.Device.{passage, WroteWhole, WrotePart};
@@ -11,7 +11,7 @@ use itoa::Buffer;
 use std::io::Write;
 use tl_device::{Counted, WriteFault, write_pieces};
 
-/// Writes the request by GET for a target of a host. It takes no memory.
+/// Writes a GET request for a target of a host. It allocates nothing.
 pub(crate) fn send_request<'a, W: Write>(
     writer: &mut Counted<W>,
     host: &'a [u8],
@@ -29,7 +29,7 @@ pub(crate) fn send_request<'a, W: Write>(
     write_pieces(writer, &pieces)
 }
 
-// Writes a request by POST, of which this is the text of the body's length.
+// Writes a POST request; `size` is the body's length in decimal.
 fn put_post<'a, W: Write>(
     writer: &mut Counted<W>,
     host: &'a [u8],
@@ -50,7 +50,7 @@ fn put_post<'a, W: Write>(
     write_pieces(writer, &pieces)
 }
 
-/// Writes the request by POST of a body to a target of a host. It takes no memory.
+/// Writes a POST request with this body for a target of a host. It allocates nothing.
 pub(crate) fn send_post<W: Write>(
     writer: &mut Counted<W>,
     host: &[u8],

@@ -1,4 +1,4 @@
-//! Reading the head of a response, up to the body that is taken.
+//! Reading the head of a response whose body is wanted.
 
 ghost use Rattle.std.specs.Prelude.{◌≡◌, Contains, length};
 ghost use Rattle.tl_device.specs.Device.{passage};
@@ -12,20 +12,20 @@ use httparse::spans::{HeaderSpan, ResponseSpans};
 use std::io::Read;
 use tl_device::Counted;
 
-/// A head whose body is taken.
+/// The head of a response whose body is wanted.
 #[derive(Clone, Copy)]
 pub(crate) struct Taken {
-    /// Where it begins.
+    /// The place in the buffer where it begins.
     pub(crate) start: usize,
     /// How many bytes were read in all.
     pub(crate) len: usize,
-    /// Where its parts are, from its beginning on.
+    /// Where its parts are, counted from its beginning.
     pub(crate) spans: ResponseSpans,
     /// How its body is framed.
     pub(crate) framing: Framing,
 }
 
-/// Reads a head with one of these statuses whose body is taken, or tells why there is none.
+/// Reads a head with one of these statuses. `GetFault` says why its body isn't read.
 pub(crate) fn read_taken<I: Read>(
     reader: &mut Counted<I>,
     buf: &mut [u8],

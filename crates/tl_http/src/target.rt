@@ -1,9 +1,9 @@
-//! What can be asked for.
+//! Which hosts and targets can be sent.
 
 ghost use Rattle.std.specs.Prelude.{◌↔◌, IsTrue};
 ghost use Rattle.tl_http.specs.Request.{IsVisible, IsAskable};
 
-/// Whether a text is visible ASCII characters, at least one.
+/// Reports whether a text is visible ASCII characters, at least one.
 pub(crate) fn is_visible(text: &[u8]) -> bool
     ensures { IsTrue result ↔ IsVisible text.now }
 {
@@ -18,7 +18,7 @@ pub(crate) fn is_visible(text: &[u8]) -> bool
     true
 }
 
-/// Whether host and target can be asked for.
+/// Reports whether host and target can be sent.
 pub(crate) fn is_askable(host: &[u8], target: &[u8]) -> bool
     ensures { IsTrue result ↔ IsAskable host.now target.now }
 {

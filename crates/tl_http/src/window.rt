@@ -11,7 +11,7 @@ use tl_device::Counted;
 /// The most bytes of one read.
 pub(crate) const BLOCK: usize = 16_384;
 
-/// Bytes that were read and not yet taken. A contract sees it as the list of them.
+/// A block of bytes that were read and not yet taken. A contract sees it as the list of them.
 #[derive(Drop)]
 pub(crate) struct Window {
     block: [u8; BLOCK],
@@ -29,10 +29,10 @@ impl Model for Window {
     ghost invariant = { λ w. (w.start ≤ w.end) × (w.end ≤ 16384) };
 }
 
-/// What came of a read.
+/// The result of a read.
 #[derive(Clone, Copy)]
 pub(crate) enum Filled {
-    /// It failed.
+    /// The read failed.
     Failed,
     /// The input has ended.
     Ended,
@@ -41,7 +41,7 @@ pub(crate) enum Filled {
 }
 
 impl Window {
-    /// Keeps the bytes that came with a head.
+    /// Creates a window of the bytes that came with a head.
     pub(crate) fn new(begun: &[u8]) -> Window
         requires { length begun.now ≤ 16384 }
         ensures { result ≡ begun.now }
@@ -56,14 +56,14 @@ impl Window {
         }
     }
 
-    /// The bytes that are kept.
+    /// Returns the bytes that are kept.
     pub(crate) fn bytes(&self) -> &[u8]
         ensures { result.now ≡ self.now }
     {
         &self.block[self.start..self.end]
     }
 
-    /// Takes the first bytes.
+    /// Drops the first `count` bytes.
     pub(crate) fn skip(&mut self, count: usize)
         requires { count ≤ length self.old }
         ensures { self.new ≡ drop count self.old }
@@ -71,7 +71,7 @@ impl Window {
         self.start += count;
     }
 
-    /// Reads once, behind the bytes that are kept.
+    /// Reads once, and keeps what comes behind the bytes that are kept.
     pub(crate) fn fill<I: Read>(&mut self, reader: &mut Counted<I>) -> Filled
         requires { length self.old < 16384 }
         ensures { Fills (passage I.remaining reader.old reader.new) self.old self.new result }
@@ -92,7 +92,7 @@ impl Window {
         }
     }
 
-    /// Reads once where nothing is kept.
+    /// Reads once if no bytes are kept.
     pub(crate) fn refill<I: Read>(&mut self, reader: &mut Counted<I>) -> Filled
         ensures { Refills (passage I.remaining reader.old reader.new) self.old self.new result }
     {

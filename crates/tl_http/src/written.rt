@@ -1,4 +1,4 @@
-//! A request in the caller's form, as it is written.
+//! Writing a request in the caller's form.
 
 ghost use Rattle.std.specs.Prelude.{◌≡◌, ◌++◌, IfOk, OnOk, OnErr, map};
 ghost use Rattle.std.specs.List.{flat_map};
@@ -42,7 +42,7 @@ fn push_fields<A: Allocator>(
     Ok(())
 }
 
-/// The head of a request. It fails only where memory is refused.
+/// Returns the head of a request. It fails only when allocation fails.
 #[tactic(auto, unfolding(crate::specs::Message::sent_head))]
 pub(crate) fn head_of<A: Allocator>(
     alloc: A,
@@ -62,7 +62,7 @@ pub(crate) fn head_of<A: Allocator>(
     Ok(head)
 }
 
-/// Writes a head and a body. It takes no memory.
+/// Writes a head and a body. It allocates nothing.
 pub(crate) fn send<'a, W: Write>(
     writer: &mut Counted<W>,
     head: &'a [u8],

@@ -13,7 +13,7 @@ use Rattle.tl_s3.specs.Canonical.{IsCanonical, Pair, Signed}
 use Rattle.tl_s3.specs.Signing.{Scoped, authorization}
 use Rattle.tl_s3.specs.Time.{Civil}
 
--- what a response is told as, or the fault
+-- this of a response, or the fault
 abbrev pub map_told : (T : Type 0) → (Given → T) → Result Given ObjectFault → Result T ObjectFault
 map_told T tell (Ok given) = Ok (tell given)
 map_told T tell (Err fault) = Err fault
@@ -38,7 +38,7 @@ told_twice : (T : Type 0) (tell : Given → T) (reply : Replied) → map_told T 
 told_twice T tell (Ok given) = refl
 told_twice T tell (Err fault) = refl
 
--- what is told of a response doesn't matter to the table
+-- what is taken of a response doesn't matter to the table
 pub asks_told : (T : Type 0) (tell : Given → T) (r : Signed) (c : Scoped) (t : Civil) (body : Bytes) (s : Sought) (i o : Passage) (told : Result Given ObjectFault)
     → Asks (λ (g : Given). g) r c t body s i o told → Asks tell r c t body s i o (map_told T tell told)
 asks_told T tell r c t body s i o told (inl memory) = inl (ap (map_told T tell) memory.0, memory.1, memory.2)
@@ -46,12 +46,12 @@ asks_told T tell r c t body s i o told (inr (inl bad)) = inr (inl (bad.0, (ap (m
 asks_told T tell r c t body s i o told (inr (inr sent)) =
     inr (inr (sent.0, (sent.1.0, sent.1.1, ap (map_told T tell) sent.1.2 ∙ told_twice T tell sent.1.0)))
 
--- a request of its parts
+-- a request, from its parts
 abbrev pub request_with : Bytes → Bytes → Bytes → List Pair → Bytes → Signed
 request_with method query path fields payload =
     record { method = method; path = path; query = query; fields = fields; payload = payload }
 
--- requests of the same parts are the same
+-- requests with equal parts are equal
 pub same_request : (method query path fullpath : Bytes) (fields all : List Pair) (payload digest : Bytes) → path ≡ fullpath → fields ≡ all → payload ≡ digest
     → request_with method query path fields payload ≡ request_with method query fullpath all digest
 same_request method query path fullpath fields all payload digest a b c =
@@ -59,7 +59,7 @@ same_request method query path fullpath fields all payload digest a b c =
     ∙ (ap (λ (fs : List Pair). request_with method query fullpath fs payload) b
     ∙ ap (λ (d : Bytes). request_with method query fullpath all d) c)
 
--- the same of a request that is another by its parts
+-- what is taken of a response doesn't matter, for a request with equal parts
 pub asks_as : (T : Type 0) (tell : Given → T) (r all : Signed) (c : Scoped) (t : Civil) (body : Bytes) (s : Sought) (i o : Passage) (told : Result Given ObjectFault)
     → r ≡ all → Asks (λ (g : Given). g) r c t body s i o told → Asks tell all c t body s i o (map_told T tell told)
 asks_as T tell r all c t body s i o told same asks =

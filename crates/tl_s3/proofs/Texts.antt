@@ -1,4 +1,4 @@
--- The digits that a date's text in HTTP has are those of its day and its time.
+-- The digits in an HTTP date's text are those of its day and its time.
 use Rattle.std.proofs.Common.{◌≡◌, ℕ, zero, suc, ◌+◌, ◌/◌, ◌%◌, ◌<◌, List, [], ◌∷◌, ◌++◌, length, get_or, codes, ap, ◌∙◌, refl, arith}
 use Rattle.std.specs.Int.{IsInRange}
 use Rattle.std.specs.Str.{IsAscii, IsUtf8}
@@ -32,7 +32,7 @@ whole name day month year hour minute second =
     name ++ codes ", " ++ two_digits day ++ codes " " ++ month ++ codes " " ++ four_digits year ++ codes " "
     ++ (hour ++ codes ":" ++ minute ++ codes ":" ++ second) ++ codes " GMT"
 
--- both texts, of a month's number
+-- both texts, from a month's number
 abbrev Tells : List ℕ → ℕ → ℕ → ℕ → ℕ → ℕ → ℕ → Type 0
 Tells name day month year hour minute second =
     (day_in (whole name day (month_name month) year (two_digits hour) (two_digits minute) (two_digits second))
@@ -64,7 +64,7 @@ named name day month year hour minute second three h =
 weekday_name : (d : HttpDate) → length (day_name d.parts.wday) ≡ 3
 weekday_name d = rw d.right_day (three_letters _ (omega arith))
 
--- of a date
+-- both texts of a date
 both : (d : HttpDate) → (day_in (date_text d) ≡ day_text (civil_of d)) × (time_in (date_text d) ≡ time_text (civil_of d))
 both d = named (day_name d.parts.wday) d.parts.day d.parts.mon d.parts.year d.parts.hour d.parts.min d.parts.sec (weekday_name d) d.civil.1
 

@@ -20,12 +20,12 @@ parts_of t =
       wday = weekday (days_from_civil t.year t.month t.day);
     }
 
--- the date of HTTP at this second
+-- the HTTP date at this second
 abbrev date_at : (seconds : ℕ) (t : Civil) → IsCivilAt seconds t → HttpDate
 date_at seconds t at =
     record { parts = parts_of t; civil = at.date; time = at.time; right_day = refl }
 
--- what parts say
+-- what the parts state
 abbrev said : Parts → Civil
 said p =
     record {

@@ -1,4 +1,5 @@
--- What a server answers (Amazon S3 API Reference, PutObject, GetObject and "Error responses"; RFC 9110, section 15).
+-- The answers of a server (Amazon S3 API Reference, PutObject, GetObject and "Error responses"; RFC 9110, section
+-- 15).
 use Rattle.std.specs.Prelude.{ℕ, ◌==◌, ◌||◌, List, [], ◌∷◌, Option, Result, Ok, Err, codes, vec_items, if◌then◌else◌}
 use Rattle.tl_device.specs.Device.{Passage}
 use Rattle.tl_http.specs.Exchange.{Sought}
@@ -16,11 +17,11 @@ use Rattle.tl_s3.specs.declared.object.PutAnswer.TheVariants as put
 use Rattle.tl_s3.specs.declared.object.PutReply.{PutReply}
 use Rattle.tl_s3.specs.Time.{Civil}
 
--- the statuses of answers that are taken with their bodies; others are faults with their number
+-- the statuses of responses that are accepted, with their bodies; any other is a fault with its number
 abbrev pub answer_statuses : List ℕ
 answer_statuses = 200 ∷ 201 ∷ 204 ∷ 400 ∷ 403 ∷ 404 ∷ 409 ∷ 412 ∷ 429 ∷ 500 ∷ 501 ∷ 503 ∷ []
 
--- the answers that are taken, with bodies of at most so many bytes, and their entity tags
+-- the responses that are accepted: these statuses, bodies of at most `limit` bytes, and the entity tag
 abbrev pub answers_sought : ℕ → Sought
 answers_sought limit = record { statuses = answer_statuses; field = codes "etag"; limit = limit }
 
@@ -35,23 +36,23 @@ abbrev pub get_answer : ℕ → GetAnswer
 get_answer status =
     if status == 200 then get.Found else (if status == 404 then get.Missing else get.Other status)
 
--- what an answer tells: which it is, its entity tag and its body
+-- an answer, and the response's entity tag and body
 pub record Told (K : Type 0) : Type 0 where
   pub answer : K
   pub etag : Option Bytes
   pub body : Bytes
 
--- what a response tells
+-- the answer in a response
 abbrev pub tell : {K : Type 0} → (ℕ → K) → Given → Told K
 tell answer given = record { answer = answer given.status; etag = given.field; body = given.body }
 
--- what a put gives, without where the bytes lie in memory, and without whether the connection stays open
+-- the result of a put as a value, without whether the connection stays open
 abbrev pub put_told : {A : Type 0} → Result (PutReply A) ObjectFault → Result (Told PutAnswer) ObjectFault
 put_told (Ok reply) =
     Ok (record { answer = reply.answer; etag = value_bytes reply.etag; body = vec_items reply.body })
 put_told (Err fault) = Err fault
 
--- what a get gives
+-- the result of a get as a value, without whether the connection stays open
 abbrev pub get_told : {A : Type 0} → Result (GetReply A) ObjectFault → Result (Told GetAnswer) ObjectFault
 get_told (Ok reply) =
     Ok (record { answer = reply.answer; etag = value_bytes reply.etag; body = vec_items reply.body })
@@ -64,7 +65,7 @@ PutsObject p t content condition i o told =
     Asks (tell put_answer) (put_request p t content condition) p.credential t content.body (answers_sought 65536)
     i o told
 
--- getting the object with this path, of at most so many bytes
+-- getting the object with this path, of at most `limit` bytes
 abbrev pub GetsObject : Place → Civil → Bytes → ℕ → Passage → Passage
     → Result (Told GetAnswer) ObjectFault → Type 0
 GetsObject p t path limit i o told =

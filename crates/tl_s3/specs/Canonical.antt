@@ -1,6 +1,6 @@
 -- The canonical request (AWS, "Signature Calculations for the Authorization Header: Transferring Payload in a Single
--- Chunk (AWS Signature Version 4)", Task 1). A request is taken whose fields have their canonical form already, and is
--- sent in that form.
+-- Chunk (AWS Signature Version 4)", Task 1). The fields of a request are in canonical form already, and are sent in
+-- that form.
 use Rattle.std.specs.Prelude.{◌≡◌, ◌==◌, ◌++◌, Bool, true, false, List, [], ◌∷◌, nat_lt, nat_le, codes, if◌then◌else◌}
 use Rattle.std.specs.List.{AllByRecursion, flat_map}
 use Rattle.tl_hash.specs.Bytes.{Bytes}
@@ -9,7 +9,8 @@ use Rattle.tl_hash.specs.Bytes.{Bytes}
 abbrev pub Pair : Type 0
 Pair = Bytes × Bytes
 
--- what of a request is signed; the path and the query are encoded, and the payload is the body's digest
+-- the parts of a request that are signed; the path and the query are encoded, and the payload is the digest of the
+-- body
 pub record Signed : Type 0 where
   pub method : Bytes
   pub path : Bytes
@@ -17,7 +18,7 @@ pub record Signed : Type 0 where
   pub fields : List Pair
   pub payload : Bytes
 
--- whether a text comes before another by the codes of their characters
+-- whether a text comes before another in the order of their characters' codes
 abbrev pub comes_before : Bytes → Bytes → Bool
 comes_before a [] = false
 comes_before [] (y ∷ b) = true
@@ -36,7 +37,8 @@ is_lower [] = true
 is_lower (b ∷ more) =
     if nat_le 65 b then (if nat_le b 90 then false else is_lower more) else is_lower more
 
--- whether blanks stand alone, none of them at the end, nor at the beginning where one went before
+-- whether no blank of the text follows another and none ends it; `true` means that a blank, or the beginning, comes
+-- before
 abbrev pub is_trimmed_after : Bool → Bytes → Bool
 is_trimmed_after true [] = false
 is_trimmed_after false [] = true
@@ -44,12 +46,12 @@ is_trimmed_after before (b ∷ more) =
     if nat_le b 32 then (if before then false else is_trimmed_after true more)
     else is_trimmed_after false more
 
--- whether no blank is at an end of a text, and none follows another: it is what trimming makes of it
+-- whether a text neither begins nor ends with a blank, and no blank follows another: trimming leaves it as it is
 abbrev pub is_trimmed : Bytes → Bool
 is_trimmed [] = true
 is_trimmed (b ∷ more) = is_trimmed_after true (b ∷ more)
 
--- the name is in lower case, the value trimmed
+-- the name is in lower case, and the value is trimmed
 abbrev pub IsCanonicalField : Pair → Type 0
 IsCanonicalField f = (is_lower f.0 ≡ true) × (is_trimmed f.1 ≡ true)
 
@@ -58,11 +60,11 @@ pub record IsCanonical (fields : List Pair) : Type 0 where
   pub each : AllByRecursion IsCanonicalField fields
   pub ordered : ascend fields ≡ true
 
--- a canonical header
+-- a line of the canonical headers
 abbrev pub field_line : Pair → Bytes
 field_line f = f.0 ++ codes ":" ++ f.1 ++ codes "\n"
 
--- the signed headers
+-- the names of the signed headers
 abbrev pub signed_names : List Pair → Bytes
 signed_names [] = []
 signed_names (f ∷ []) = f.0

@@ -1,4 +1,4 @@
--- Requests and credentials as they are signed.
+-- Requests and credentials as values.
 use Rattle.std.specs.Prelude.{map}
 use Rattle.tl_s3.specs.declared.credential.Credential.{Credential}
 use Rattle.tl_s3.specs.declared.request.Field.{Field}
@@ -10,7 +10,7 @@ use Rattle.tl_s3.specs.Signing.{Scoped}
 abbrev pub field_of : Field → Pair
 field_of f = (f.name.now, f.value.now)
 
--- what of a request is signed
+-- the parts of a request that are signed
 abbrev pub request_of : Request → Signed
 request_of r =
     record {
@@ -21,7 +21,7 @@ request_of r =
       payload = r.payload.now;
     }
 
--- who signs, and where the signature is good
+-- a credential: its key, and the region and the service that its signatures are for
 abbrev pub credential_of : Credential → Scoped
 credential_of c =
     record { id = c.id.now; secret = c.secret.now; region = c.region.now; service = c.service.now }

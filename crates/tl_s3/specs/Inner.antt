@@ -1,4 +1,4 @@
--- Private words: the digits of a date of HTTP.
+-- Definitions for the contracts of private functions and for proofs: the digits of an HTTP date.
 pub
     mod Digits
 pub

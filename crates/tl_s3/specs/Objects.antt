@@ -12,7 +12,7 @@ use Rattle.tl_s3.specs.CanonicalRequests.{credential_of}
 use Rattle.tl_s3.specs.Signing.{Scoped}
 use Rattle.tl_s3.specs.Time.{Civil, time_text}
 
--- a bucket: its host, what stands before each path, and who signs
+-- a bucket: its host, the prefix of each path, and the credential that signs
 pub record Place : Type 0 where
   pub host : Bytes
   pub prefix : Bytes
@@ -21,7 +21,7 @@ pub record Place : Type 0 where
 abbrev pub place_of : Bucket → Place
 place_of b = record { host = b.host.now; prefix = b.prefix.now; credential = credential_of b.credential }
 
--- an object
+-- an object: its path, the two fields that the server sends with it, and its bytes
 pub record Content : Type 0 where
   pub path : Bytes
   pub content_type : Bytes
@@ -37,17 +37,17 @@ content_of o =
       body = o.body.now;
     }
 
--- the field that says when an object is to be put
+-- the field with the condition under which an object is put
 abbrev pub condition_fields : Condition → List Pair
 condition_fields Always = []
 condition_fields Absent = (codes "if-none-match", codes "*") ∷ []
 condition_fields (Matches etag) = (codes "if-match", etag.now) ∷ []
 
--- what a request says of its body
+-- the digest of a body: SHA-256 in hexadecimal
 abbrev pub payload : Bytes → Bytes
 payload body = encode_lower (sha256 body)
 
--- the fields that each request has, with this digest of its body, at the time with this text
+-- the fields that each signed request has, with this digest of its body, at the time with this text
 abbrev pub amazon_fields : Bytes → Bytes → List Pair
 amazon_fields digest time = (codes "x-amz-content-sha256", digest) ∷ (codes "x-amz-date", time) ∷ []
 

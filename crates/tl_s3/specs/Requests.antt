@@ -12,16 +12,15 @@ use Rattle.tl_s3.specs.Canonical.{IsCanonical, Signed}
 use Rattle.tl_s3.specs.Signing.{Scoped}
 use Rattle.tl_s3.specs.Time.{Civil}
 
--- what comes of an exchange, with what is told of its response
+-- the result of an exchange, with this of its response
 abbrev pub told_by : {T : Type 0} → (Given → T) → Replied → Result T ObjectFault
 told_by tell (Ok given) = Ok (tell given)
 told_by tell (Err fault) = Err (Get fault)
 
--- the table of a signed request with a body, of which the first row that applies decides; i is the reader, o the
--- writer:
---     OutOfMemory  memory for the request was refused; nothing is written or read
---     BadField     its fields haven't their canonical form; nothing is written or read
---     else         what comes of sending the very request with its signature
+-- the result of a signed request with this body, by the first case that applies; i is the reader, o the writer:
+--     OutOfMemory  an allocation for the request failed; nothing is written or read
+--     BadField     its fields aren't in canonical form; nothing is written or read
+--     else         the very request is sent with its signature, and the exchange decides
 abbrev pub Asks : {T : Type 0} → (Given → T) → Signed → Scoped → Civil → Bytes → Sought → Passage → Passage
     → Result T ObjectFault → Type 0
 Asks tell r c t body s i o told =

@@ -1,4 +1,4 @@
-//! The text of a request that is signed.
+//! The canonical request.
 
 ghost use Rattle.std.specs.Prelude.{◌≡◌, ◌++◌, IfOk, OnOk, map, string_bytes};
 ghost use Rattle.std.specs.List.{flat_map};
@@ -25,7 +25,7 @@ fn push_lines<A: Allocator>(out: &mut String<A>, fields: &[Field<'_>]) -> Result
     Ok(())
 }
 
-/// Appends the names of the fields, with a semicolon between.
+/// Appends the names of the fields, with semicolons between them.
 pub(crate) fn push_names<A: Allocator>(
     out: &mut String<A>,
     fields: &[Field<'_>],
@@ -44,8 +44,8 @@ pub(crate) fn push_names<A: Allocator>(
     push_names(out, rest)
 }
 
-/// SHA-256 of a body in hexadecimal ("Signature Calculations for the Authorization Header", `HashedPayload`). It fails
-/// only where memory is refused.
+/// Returns SHA-256 of a body in hexadecimal ("Signature Calculations for the Authorization Header", `HashedPayload`).
+/// It fails only when allocation fails.
 pub fn payload_digest<A: Allocator>(alloc: A, body: &[u8]) -> Result<String<A>, AllocError>
     ensures digest { IfOk result (λ text. string_bytes text ≡ encode_lower (sha256 body.now)) }
 {
@@ -55,9 +55,9 @@ pub fn payload_digest<A: Allocator>(alloc: A, body: &[u8]) -> Result<String<A>, 
     )
 }
 
-/// The canonical request ("Signature Calculations for the Authorization Header", Task 1). Its fields have their
-/// canonical form already, as `is_canonical` decides: fields in another form are not to be handed in, since it is the
-/// request that is signed which has to be sent. It fails only where memory is refused.
+/// Returns the canonical request ("Signature Calculations for the Authorization Header", Task 1). The fields have to
+/// be in canonical form already (`is_canonical`), because the request that is signed is the one that has to be sent.
+/// It fails only when allocation fails.
 pub fn canonical_request<A: Allocator>(
     alloc: A,
     request: &Request<'_>,

@@ -1,15 +1,15 @@
-//! Who signs.
+//! The credential that signs.
 
-/// A key, and where its signatures are good. It holds the key's secret, so it has no `Debug` that could write it into a
-/// message.
+/// A key, and the region and the service that its signatures are for. It holds the key's secret, so it has no
+/// `Debug`, which could write the secret into a message.
 #[derive(Clone, Copy)]
 pub struct Credential<'t> {
-    /// The key's public name.
+    /// The access key's identifier, which is public.
     pub id: &'t str,
-    /// The key's secret.
+    /// The access key's secret.
     pub secret: &'t str,
-    /// The region, as `us-east-1`.
+    /// The region, such as `us-east-1`.
     pub region: &'t str,
-    /// The service: `s3`.
+    /// The service, such as `s3`.
     pub service: &'t str,
 }

@@ -1,9 +1,9 @@
-//! The digits of a date, from its text in a field of HTTP.
+//! The digits of a date, from its text in an HTTP field.
 
 ghost use Rattle.std.specs.Prelude.{◌≡◌};
 ghost use Rattle.tl_s3.specs.Inner.Digits as inner;
 
-// The number of a month in two digits, from the first three letters of its name.
+// Returns the number of a month in two digits, from the first three letters of its name.
 fn month_digits(name: &[u8; 3]) -> [u8; 2]
     ensures digits { result ≡ inner.month_digits name.now }
 {
@@ -23,7 +23,7 @@ fn month_digits(name: &[u8; 3]) -> [u8; 2]
     }
 }
 
-/// The digits of the day in a text as `Fri, 24 May 2013 00:00:00 GMT`.
+/// Returns the digits of the day in a text such as `Fri, 24 May 2013 00:00:00 GMT`.
 pub(crate) fn day_in(text: &[u8; 29]) -> [u8; 8]
     ensures digits { result ≡ inner.day_in text.now }
 {
@@ -33,7 +33,7 @@ pub(crate) fn day_in(text: &[u8; 29]) -> [u8; 8]
     ]
 }
 
-/// The day and the time in such a text.
+/// Returns the day and the time in such a text, as `20130524T000000Z`.
 pub(crate) fn time_in(text: &[u8; 29]) -> [u8; 16]
     ensures digits { result ≡ inner.time_in text.now }
 {

@@ -1,4 +1,4 @@
-//! Why there is no answer of a server.
+//! Why there is no answer to a put or a get.
 
 ghost use Rattle.std.specs.Prelude.{◌≡◌};
 ghost use Rattle.tl_s3.specs.declared.fault.ObjectFault.TheVariants as faults;
@@ -7,16 +7,16 @@ use std::alloc::{AllocError, AllocFailed};
 use thiserror::Error;
 use tl_http::HttpFault;
 
-/// Why there is no answer of a server to a put or a get, in the order in which the refusals are checked.
+/// Why there is no answer to a put or a get, in the order in which the checks are made.
 #[derive(Clone, Copy, Debug, PartialEq, Eq, Error)]
 pub enum ObjectFault {
-    /// Memory for the request was refused. Nothing was written or read.
+    /// An allocation for the request failed. Nothing was written or read.
     #[error("out of memory")]
     OutOfMemory,
-    /// A value of a field has a blank at an end, or two together. Nothing was written or read.
+    /// A value of a field begins or ends with a blank, or has two blanks together. Nothing was written or read.
     #[error("the request can't be signed")]
     BadField,
-    /// There is no response that is taken. But for `BadTarget` this doesn't tell whether an object was put.
+    /// The request failed, or its response isn't accepted. Except after `BadTarget`, the object may have been put.
     #[error("{0}")]
     Get(HttpFault),
 }

@@ -7,7 +7,7 @@ ghost use Rattle.tl_s3.specs.CanonicalRequests.{field_of};
 
 use crate::request::Field;
 
-// Whether no character is a capital letter.
+// Reports whether no character is a capital letter.
 fn is_lower(text: &[u8]) -> bool
     ensures lower { result ≡ spec.is_lower text.now }
 {
@@ -19,7 +19,7 @@ fn is_lower(text: &[u8]) -> bool
     true
 }
 
-// Whether no blank is at an end of a text, and none follows another.
+// Reports whether a text neither begins nor ends with a blank, and no blank follows another.
 fn is_trimmed(text: &[u8]) -> bool
     ensures trimmed { result ≡ spec.is_trimmed text.now }
 {
@@ -34,7 +34,7 @@ fn is_trimmed(text: &[u8]) -> bool
     text.is_empty() || !before
 }
 
-// Whether the name of a field comes before that of another.
+// Reports whether the name of a field comes before that of another.
 #[tactic(auto, using(crate::proofs::Names::before_is))]
 fn comes_before(field: &Field<'_>, next: &Field<'_>) -> bool
     ensures before { result ≡ spec.comes_before field.now.name.now next.now.name.now }
@@ -42,14 +42,14 @@ fn comes_before(field: &Field<'_>, next: &Field<'_>) -> bool
     field.name < next.name
 }
 
-// Whether a field's name is in lower case and its value trimmed.
+// Reports whether a field's name is in lower case and its value trimmed.
 fn is_canonical_field(field: &Field<'_>) -> bool
     ensures canonical { IsTrue result ↔ spec.IsCanonicalField (field_of field.now) }
 {
     is_lower(field.name.as_bytes()) && is_trimmed(field.value.as_bytes())
 }
 
-// The same of each field.
+// Reports whether each field's name is in lower case and its value trimmed.
 fn are_canonical_fields(fields: &[Field<'_>]) -> bool
     ensures each { IsTrue result
         ↔ AllByRecursion spec.IsCanonicalField (map field_of fields.now) }
@@ -63,7 +63,7 @@ fn are_canonical_fields(fields: &[Field<'_>]) -> bool
     are_canonical_fields(rest)
 }
 
-// Whether each name comes before the next.
+// Reports whether each name comes before the next.
 fn ascend(fields: &[Field<'_>]) -> bool
     ensures ordered { result ≡ spec.ascend (map field_of fields.now) }
 {
@@ -79,8 +79,8 @@ fn ascend(fields: &[Field<'_>]) -> bool
     ascend(rest)
 }
 
-/// Whether fields have their canonical form ("Signature Calculations for the Authorization Header", Task 1): names in
-/// lower case and in order, each once, and trimmed values. It takes no memory.
+/// Reports whether fields are in canonical form: names in lower case and in order, each once, and trimmed values
+/// ("Signature Calculations for the Authorization Header", Task 1). It allocates nothing.
 pub fn is_canonical(fields: &[Field<'_>]) -> bool
     ensures canonical { IsTrue result ↔ spec.IsCanonical (map field_of fields.now) }
 {

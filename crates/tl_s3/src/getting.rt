@@ -19,7 +19,7 @@ use std::alloc::Allocator;
 use std::io::{Read, Write};
 use tl_device::Counted;
 
-// The fields of a get, with this digest of no bytes, in the order of their names.
+// Returns the fields of a get, in the order of their names; `payload` is the digest of no bytes.
 fn fields_of<'t, A: Allocator>(
     alloc: A,
     host: &'t str,
@@ -37,7 +37,7 @@ fn fields_of<'t, A: Allocator>(
     Ok(fields)
 }
 
-// What a status answers to a get.
+// Returns what a status answers to a get.
 fn answer_of(status: u16) -> GetAnswer
     ensures answer { result ≡ spec.get_answer status }
 {
@@ -48,10 +48,10 @@ fn answer_of(status: u16) -> GetAnswer
     }
 }
 
-/// Gets the object with this path, encoded, from a slash on, from a bucket, by a GET request that is signed at this
-/// moment (Amazon S3 API Reference, GetObject; RFC 9110, section 9.3.1), and gives the server's answer, with a body of
-/// at most `limit` bytes. What is written is the signed request and nothing else, or its first bytes before
-/// `Get(Write)`.
+/// Gets the object with this path from a bucket, by a GET request that is signed at this moment, and returns the
+/// server's answer, with a body of at most `limit` bytes (Amazon S3 API Reference, GetObject; RFC 9110, section
+/// 9.3.1). The path is encoded and begins with a slash. The bytes written are the signed request and nothing else, or
+/// a prefix of it before `Get(Write)`.
 pub fn get_object<A: Allocator + Copy, I: Read, O: Write>(
     alloc: A,
     reader: &mut Counted<I>,

@@ -1,27 +1,42 @@
-//! Objects of a bucket of the S3 kind, put and got by requests that are signed as AWS Signature Version 4 says
-//! ("Signature Calculations for the Authorization Header: Transferring Payload in a Single Chunk").
+//! Puts objects into a bucket of an S3-compatible server, and gets them (Amazon S3 API Reference, PutObject and
+//! GetObject), by requests that are signed by AWS Signature Version 4 ("Signature Calculations for the Authorization
+//! Header: Transferring Payload in a Single Chunk (AWS Signature Version 4)").
 //!
-//! A bucket keeps objects by path. Each request to it carries a signature over its method, path, some of its fields and
-//! the digest of its body, made with a secret that only the bucket's owners have. A put can be conditional: that nothing
-//! is there yet, or that just the object with an entity tag is there (RFC 9110, section 13.1), so several writers can share
-//! a bucket and none overwrites what another one wrote.
+//! A bucket holds objects by path. A put can have a `Condition`: that no object is there yet, or that the one there
+//! still has the entity tag that the caller saw. So several writers can share a bucket, and none of them overwrites
+//! what another one put meanwhile. Each request is signed with the bucket's credential, and goes over a
+//! reader and a writer, which can carry further requests while `stays_open` is true.
 //!
-//! ```
+//! A put whose answer is lost, or has a status from 500 on, may have been done: get the object, and compare.
+//!
+//! ```rust
+//! let credential = Credential { id: "AKID", secret: &secret, region: "us-east-1", service: "s3" };
 //! let bucket = Bucket { host: "127.0.0.1:7480", prefix: "/logs", credential };
-//! let moment = Moment::from_unix_seconds(1_369_353_600).unwrap(); // 24 May 2013
 //! let object = Object { path: "/checkpoint", content_type: "text/plain", cache_control: "no-cache", body: &note };
 //! let put = put_object(alloc, &mut reader, &mut writer, &bucket, &moment, &object, Condition::Absent)?;
 //! match put.answer {
-//!     PutAnswer::Done => {}      // its entity tag is put.etag
-//!     PutAnswer::Refused => {}   // one was there
-//!     _ => {}
+//!     PutAnswer::Done => {}    // put.etag is the entity tag of the new object
+//!     PutAnswer::Refused => {} // another object was there already
+//!     _ => {}                  // put.body says why
 //! }
-//! if put.stays_open { /* the same reader and writer can carry another request */ }
+//! if put.stays_open {
+//!     let got = get_object(alloc, &mut reader, &mut writer, &bucket, &moment, "/checkpoint", 65_536)?;
+//! }
 //! ```
 //!
-//! `authorization` signs any other request:
+//! A server of this kind knows who sends a request by the field `Authorization`, which carries a signature of the
+//! method, the path, the query, the fields and the body's digest. The signing key comes from the secret of a
+//! `Credential` and is good for one day, one region and one service; the `Moment` gives that day and the request's
+//! time.
 //!
-//! ```
+//! To sign, put the request into a `Request` with its fields in canonical form, which `is_canonical` checks: names in
+//! lower case and in order, each once, and trimmed values. `authorization` returns the value of `Authorization`. Then
+//! send the request exactly as it was signed. The steps on the way can be called alone: `canonical_request`,
+//! `string_to_sign`, `signing_key` and `signature`.
+//!
+//! ```rust
+//! let credential = Credential { id: "AKID", secret: &secret, region: "us-east-1", service: "s3" };
+//! let moment = Moment::from_unix_seconds(1_369_353_600).unwrap(); // 24 May 2013
 //! let payload = payload_digest(alloc, b"")?;
 //! let request = Request {
 //!     method: "GET",
@@ -35,7 +50,7 @@
 //!     payload: payload.as_str(),
 //! };
 //! assert!(is_canonical(request.fields));
-//! let value = authorization(alloc, &request, &credential, &moment)?;
+//! let value = authorization(alloc, &request, &credential, &moment)?; // AWS4-HMAC-SHA256 Credential=..
 //! ```
 #![tactic(auto)]
 

@@ -1,4 +1,4 @@
-//! A second, and its texts as they are signed.
+//! A second, and the two texts in which it is signed.
 
 ghost use Rattle.std.specs.Prelude.{◌≡◌};
 
@@ -7,7 +7,7 @@ use arrayvec::ArrayString;
 use httpdate::HttpDate;
 use std::marker::Model;
 
-/// A second from 1970 to 9999 in UTC, with its two texts as they are signed: they are made together, so that no
+/// A second from 1970 to 9999 in UTC, with the two texts in which it is signed. They are made together, so no
 /// signature has the day of one second and the time of another. A contract sees it as its date and time.
 #[derive(Drop)]
 pub struct Moment {
@@ -32,7 +32,7 @@ impl Moment {
     ghost use Rattle.std.specs.Prelude.{ℕ, ◌<◌, ◌↔◌, IsSome, MatchOption};
     ghost use Rattle.tl_s3.specs.Time.{Civil, IsCivilAt, day_text, time_text};
 
-    /// The moment so many seconds after 1970 began in UTC, or `None` from the year 10000 on.
+    /// Returns the moment this many seconds after the start of 1970 in UTC, or `None` from the year 10000 on.
     pub fn from_unix_seconds(seconds: u64) -> Option<Moment>
         ensures until { IsSome result ↔ (seconds < 253_402_300_800) }
         ensures civil { MatchOption result ((t : Civil) → ¬ (IsCivilAt seconds t))
@@ -51,14 +51,14 @@ impl Moment {
         Some(Moment { date, day, time })
     }
 
-    /// The day, as `20130524` (ISO 8601, basic format).
+    /// Returns the day, such as `20130524` (ISO 8601, basic format).
     pub fn day(&self) -> &str
         ensures text { result.now ≡ day_text self.now }
     {
         self.day.as_str()
     }
 
-    /// The time, as `20130524T000000Z` (ISO 8601, basic format): what the field `x-amz-date` has.
+    /// Returns the time, such as `20130524T000000Z` (ISO 8601, basic format), for the field `x-amz-date`.
     pub fn time(&self) -> &str
         ensures text { result.now ≡ time_text self.now }
     {

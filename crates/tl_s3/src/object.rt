@@ -1,44 +1,44 @@
-//! Objects of a bucket, and what comes of putting and getting them.
+//! Objects of a bucket, and the answers to putting and getting them.
 
 use crate::credential::Credential;
 use std::alloc::Allocator;
 
-/// A bucket of a server of the S3 kind.
+/// A bucket of an S3-compatible server.
 #[derive(Clone, Copy)]
 pub struct Bucket<'b> {
-    /// The host, as the field Host has it.
+    /// The host, the value of the field Host.
     pub host: &'b str,
-    /// What stands before each object's path, encoded, as `/logs`; empty where the host names the bucket.
+    /// The prefix of each object's path, encoded, such as `/logs`; empty if the host names the bucket.
     pub prefix: &'b str,
-    /// Who signs.
+    /// The credential that signs requests.
     pub credential: Credential<'b>,
 }
 
 /// An object that is put.
 #[derive(Clone, Copy)]
 pub struct Object<'o> {
-    /// Its path, encoded, from a slash on.
+    /// Its path, encoded, which begins with a slash.
     pub path: &'o str,
-    /// Its media type, which the server gives with it.
+    /// Its media type, which the server sends with it.
     pub content_type: &'o str,
-    /// How long it may be kept by others, which the server gives with it (RFC 9111, section 5.2).
+    /// How long caches may keep it, which the server sends with it (RFC 9111, section 5.2).
     pub cache_control: &'o str,
     /// Its content.
     pub body: &'o [u8],
 }
 
-/// When an object is to be put (RFC 9110, sections 13.1.1 and 13.1.2).
+/// The condition under which an object is put (RFC 9110, sections 13.1.1 and 13.1.2).
 #[derive(Clone, Copy)]
 pub enum Condition<'c> {
-    /// In any case.
+    /// None.
     Always,
-    /// Where none is there: `If-None-Match: *`.
+    /// No object is there: `If-None-Match: *`.
     Absent,
-    /// Where the one that is there has this entity tag: `If-Match`.
+    /// The object that is there has this entity tag: `If-Match`.
     Matches(&'c str),
 }
 
-/// What a server answers to a put.
+/// The answer of a server to a put.
 #[derive(Clone, Copy, Debug, PartialEq, Eq)]
 pub enum PutAnswer {
     /// The object is put (200, 201, 204).
@@ -47,11 +47,11 @@ pub enum PutAnswer {
     Refused,
     /// Another put of the object is under way (409).
     Conflict,
-    /// Another status. From 500 on it doesn't tell whether the object was put.
+    /// Another status. From 500 on the object may have been put.
     Other(u16),
 }
 
-/// What a server answers to a get.
+/// The answer of a server to a get.
 #[derive(Clone, Copy, Debug, PartialEq, Eq)]
 pub enum GetAnswer {
     /// The object is there (200).
@@ -62,27 +62,27 @@ pub enum GetAnswer {
     Other(u16),
 }
 
-/// An answer to a put.
+/// The response to a put.
 #[derive(Drop)]
 pub struct PutReply<A: Allocator> {
-    /// What it says.
+    /// The answer that its status gives.
     pub answer: PutAnswer,
-    /// Its entity tag: that of the object where it is put.
+    /// Its entity tag. If the answer is `Done`, that of the object.
     pub etag: Option<Vec<u8, A>>,
-    /// Its body: where the answer isn't `Done`, the server's words, as why it is 403.
+    /// Its body. If the answer isn't `Done`, the server's message, such as why the status is 403.
     pub body: Vec<u8, A>,
     /// Whether the connection can carry another request.
     pub stays_open: bool,
 }
 
-/// An answer to a get.
+/// The response to a get.
 #[derive(Drop)]
 pub struct GetReply<A: Allocator> {
-    /// What it says.
+    /// The answer that its status gives.
     pub answer: GetAnswer,
-    /// Its entity tag: that of the object where it is found.
+    /// Its entity tag. If the answer is `Found`, that of the object.
     pub etag: Option<Vec<u8, A>>,
-    /// Its body: where the answer is `Found`, the object's content.
+    /// Its body. If the answer is `Found`, the object's content.
     pub body: Vec<u8, A>,
     /// Whether the connection can carry another request.
     pub stays_open: bool,

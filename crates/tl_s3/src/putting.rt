@@ -20,10 +20,10 @@ use std::io::{Read, Write};
 use tl_device::Counted;
 use tl_http::Response;
 
-// The most bytes of an answer's body.
+// The most bytes of a response's body.
 const MOST_ANSWER: usize = 65_536;
 
-// The fields of a put, with this digest of the body, in the order of their names.
+// Returns the fields of a put, in the order of their names; `payload` is the digest of the body.
 fn fields_of<'t, A: Allocator>(
     alloc: A,
     host: &'t str,
@@ -51,7 +51,7 @@ fn fields_of<'t, A: Allocator>(
     Ok(fields)
 }
 
-// What a status answers to a put.
+// Returns what a status answers to a put.
 fn answer_of(status: u16) -> PutAnswer
     ensures answer { result ≡ spec.put_answer status }
 {
@@ -63,7 +63,7 @@ fn answer_of(status: u16) -> PutAnswer
     }
 }
 
-// What a response answers to a put.
+// Returns what a response answers to a put.
 fn reply_of<A: Allocator>(response: Response<A>) -> PutReply<A>
     ensures answer { result.answer ≡ spec.put_answer response.status }
     ensures etag { result.etag ≡ response.field }
@@ -78,11 +78,11 @@ fn reply_of<A: Allocator>(response: Response<A>) -> PutReply<A>
     }
 }
 
-/// Puts an object into a bucket under a condition, by a PUT request that is signed at this moment (Amazon S3 API
-/// Reference, PutObject; RFC 9110, section 9.3.4), and gives the server's answer, with a body of at most 65,536 bytes.
-/// What is written is the signed request and nothing else, or its first bytes before `Get(Write)`. After a fault other
-/// than `OutOfMemory`, `BadField` and `Get(BadTarget)`, and after a status from 500 on, it isn't known whether the
-/// object was put: read it, and compare.
+/// Puts an object into a bucket under a condition, by a PUT request that is signed at this moment, and returns the
+/// server's answer, with a body of at most 65,536 bytes (Amazon S3 API Reference, PutObject; RFC 9110, section
+/// 9.3.4). The bytes written are the signed request and nothing else, or a prefix of it before `Get(Write)`. After a
+/// fault other than `OutOfMemory`, `BadField` and `Get(BadTarget)`, and after a status from 500 on, the object may
+/// have been put: get it, and compare.
 pub fn put_object<A: Allocator + Copy, I: Read, O: Write>(
     alloc: A,
     reader: &mut Counted<I>,

@@ -1,4 +1,4 @@
-//! A request with its signature.
+//! Sending a request with its signature.
 
 ghost use Rattle.std.specs.Prelude.{◌≡◌, ◌++◌, [], ◌∷◌, IfErr, IfOk, codes, map, string_bytes};
 ghost use Rattle.tl_device.specs.Device.{passage};
@@ -22,10 +22,10 @@ use std::io::{Read, Write};
 use tl_device::Counted;
 use tl_http::{FieldLine, Message, Response, exchange};
 
-// The statuses of answers that are taken.
+// The statuses of responses that are accepted.
 const STATUSES: [u16; 12] = [200, 201, 204, 400, 403, 404, 409, 412, 429, 500, 501, 503];
 
-/// The target of a path under a prefix. It fails only where memory is refused.
+/// Returns the target of a path under a prefix. It fails only when allocation fails.
 pub(crate) fn target_of<A: Allocator>(
     alloc: A,
     prefix: &str,
@@ -38,14 +38,14 @@ pub(crate) fn target_of<A: Allocator>(
     Ok(target)
 }
 
-/// A field with this name and value.
+/// Returns a field with this name and value.
 pub(crate) fn field<'t>(name: &'t str, value: &'t str) -> Field<'t>
     ensures field { signed.field_of result ≡ (name.now, value.now) }
 {
     Field { name, value }
 }
 
-// The fields as they are sent, with their signature behind them.
+// Returns the fields as they are sent, with the signature behind them.
 fn lines_of<'t, A: Allocator>(
     alloc: A,
     fields: &[Field<'t>],
@@ -69,8 +69,8 @@ fn lines_of<'t, A: Allocator>(
     Ok(lines)
 }
 
-/// Sends a request with its signature, whose payload is this body and whose query is empty, and gives a response that
-/// is taken, with the value of its field ETag.
+/// Signs and sends a request, whose payload is this body and whose query is empty, and returns a response that is
+/// accepted, with the value of its field ETag.
 pub(crate) fn send_signed<A: Allocator + Copy, I: Read, O: Write>(
     alloc: A,
     reader: &mut Counted<I>,

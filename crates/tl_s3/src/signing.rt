@@ -13,7 +13,7 @@ use std::alloc::{AllocError, Allocator};
 use tl_hash::Hash;
 use tl_key::hmac;
 
-// The scope of a credential on a day.
+// Returns the scope of a credential on a day.
 fn scope_of<A: Allocator>(
     alloc: A,
     credential: &Credential<'_>,
@@ -33,7 +33,7 @@ fn scope_of<A: Allocator>(
     .concat(alloc)
 }
 
-// The string to sign, of the texts that it has.
+// Returns the string to sign, from its parts.
 fn text_to_sign<'t, A: Allocator>(
     alloc: A,
     time: &'t str,
@@ -47,9 +47,9 @@ fn text_to_sign<'t, A: Allocator>(
     ["AWS4-HMAC-SHA256\n", time, "\n", scope, "\n", digest].concat(alloc)
 }
 
-/// The string to sign ("Signature Calculations for the Authorization Header", Task 2) of a request whose field
-/// `x-amz-date` has the time of this moment. Fields that are not in canonical form are not to be handed in
-/// (`is_canonical`). It fails only where memory is refused.
+/// Returns the string to sign ("Signature Calculations for the Authorization Header", Task 2). The fields have to be
+/// in canonical form (`is_canonical`), and `x-amz-date` has to be the time of this moment. It fails only when
+/// allocation fails.
 pub fn string_to_sign<A: Allocator + Copy>(
     alloc: A,
     request: &Request<'_>,
@@ -66,9 +66,9 @@ pub fn string_to_sign<A: Allocator + Copy>(
     text_to_sign(alloc, moment.time(), scope.as_str(), digest.as_str())
 }
 
-/// The signing key ("Signature Calculations for the Authorization Header", Task 3). It signs any request on the day of
-/// this moment, to the credential's service in its region, so it is to be kept as secret as the credential. It fails
-/// only where memory is refused.
+/// Returns the signing key ("Signature Calculations for the Authorization Header", Task 3). It signs any request on
+/// the day of this moment to the credential's service in its region, so keep it as secret as the credential. It fails
+/// only when allocation fails.
 pub fn signing_key<A: Allocator>(
     alloc: A,
     credential: &Credential<'_>,
@@ -85,9 +85,9 @@ pub fn signing_key<A: Allocator>(
     Ok(hmac(service.as_bytes(), b"aws4_request"))
 }
 
-/// The signature ("Signature Calculations for the Authorization Header", Task 3), in hexadecimal, of a request whose
-/// field `x-amz-date` has the time of this moment. Fields that are not in canonical form are not to be handed in
-/// (`is_canonical`). It fails only where memory is refused.
+/// Returns the signature of a request in hexadecimal ("Signature Calculations for the Authorization Header", Task 3).
+/// The fields have to be in canonical form (`is_canonical`), and `x-amz-date` has to be the time of this moment. It
+/// fails only when allocation fails.
 pub fn signature<A: Allocator + Copy>(
     alloc: A,
     request: &Request<'_>,
@@ -105,7 +105,7 @@ pub fn signature<A: Allocator + Copy>(
     Ok(digits)
 }
 
-// The value of the field up to the names of the fields that are signed.
+// Returns the value of `Authorization` up to the names of the signed fields.
 fn before_names<'t, A: Allocator>(
     alloc: A,
     id: &'t str,
@@ -125,9 +125,9 @@ fn before_names<'t, A: Allocator>(
     .concat(alloc)
 }
 
-/// The value of the field `Authorization` ("Signature Calculations for the Authorization Header", "Overview") of a
-/// request whose field `x-amz-date` has the time of this moment. Fields that are not in canonical form are not to be
-/// handed in (`is_canonical`). It fails only where memory is refused.
+/// Returns the value of the field `Authorization` ("Signature Calculations for the Authorization Header",
+/// "Overview"). The fields have to be in canonical form (`is_canonical`), and `x-amz-date` has to be the time of this
+/// moment. It fails only when allocation fails.
 pub fn authorization<A: Allocator + Copy>(
     alloc: A,
     request: &Request<'_>,

@@ -13,7 +13,7 @@ no_bytes begun body n none same = record {
   length_is = ap (λ (l : List ℕ). length l) same ∙ sym none;
 }
 
--- what came with the head and was read since goes on behind the body with what came with the head behind it
+-- the bytes that came with the head and those read since are the body and what came with the head behind it
 rest_joined : (begun bytes : List ℕ) (n len : ℕ) → len ≡ min (length begun) n → len + length bytes ≡ n
     → begun ++ bytes ≡ (take len begun ++ bytes) ++ drop n begun
 rest_joined begun [] n len least sum =
@@ -72,7 +72,7 @@ copied k new rest begun within same =
     let long : length new ≡ k = ap (λ (l : List ℕ). length l) same ∙ length-take-le k begun within in
     take-append-le k new rest (omega (arith, long)) ∙ (take_all k new (omega (arith, long)) ∙ same)
 
--- which leaves the buffer's length
+-- copying leaves the buffer's length
 pub copied_length : (k n : ℕ) (new buf begun : List ℕ) → k ≤ length begun → k ≤ length buf → new ≡ take k begun → length buf ≡ n
     → length (new ++ drop k buf) ≡ n
 copied_length k n new buf begun within fits same whole =

@@ -1,18 +1,18 @@
--- An entry at a place of a bundle.
+-- An entry at a place in a bundle.
 use Rattle.std.proofs.Common.{◌≡◌, ◌≢◌, ℕ, zero, suc, ◌+◌, ◌<◌, List, [], ◌∷◌, ◌++◌, Option, Some, None, length, refl, sym, ◌∙◌, ap, inl, inr, arith, Bor, MatchOption}
 use Rattle.std.specs.Prelude.{slice_get, option_map}
 use Rattle.tl_tile.specs.Bundle.{IsBundle, IsPartialEntry, HasTrailing}
 use Rattle.tl_tile.proofs.BundleLemmas.{HasRead, truncated_at, not_truncated, bundles_are_one, all_read}
 use Rattle.tl_server.specs.Inner.Places.{FindsNone, HasEntry, LacksIt}
 
--- one more behind a list changes what is elsewhere in nothing
+-- an element appended to a list changes no other place
 get_push_other : {X : Type 0} (xs : List X) (x : X) (k : ℕ) → k ≢ length xs → slice_get (xs ++ x ∷ []) k ≡ slice_get xs k
 get_push_other [] x zero other = absurd (other refl)
 get_push_other [] x (suc k) other = refl
 get_push_other (y ∷ xs) x zero other = refl
 get_push_other (y ∷ xs) x (suc k) other = get_push_other xs x k (λ e. other (ap suc e))
 
--- and is at the list's length
+-- an element appended to a list has the list's length as its place
 get_push_same : {X : Type 0} (xs : List X) (x : X) → slice_get (xs ++ x ∷ []) (length xs) ≡ Some x
 get_push_same [] x = refl
 get_push_same (y ∷ xs) x = get_push_same xs x

@@ -1,4 +1,4 @@
--- What the parser's refusals say of an input, of which a part was read.
+-- What a parser's refusal means for an input of which a part was read.
 use Rattle.std.proofs.Common.{◌≡◌, ◌≢◌, ℕ, ◌≤◌, ◌<◌, ◌+◌, ◌-◌, List, [], ◌++◌, length, length-append, take, drop, arith, sym, ◌∙◌, ap, subst, append-nil, append_assoc, true, Bool, refl, inl, inr}
 use Rattle.std.proofs.lemmas.List.{take-append-le, take-append-drop}
 use Rattle.std.proofs.Math.Seq.{take-append_seam, take-append-add}
@@ -45,7 +45,7 @@ no_request head rest is =
     let some : 0 < length head.method = is.0.method.0 in
     absurd (grind (arith, length-append, same, some))
 
--- what overflows goes on to, whatever follows
+-- what overflows does so whatever follows
 over_more : (buf more : List ℕ) → RequestOverflows 64 buf → RequestOverflows 64 (buf ++ more)
 over_more buf more over rest head after reads =
     over (more ++ rest) head after (subst (λ (l : List ℕ). ReadsRequest l head after) (append_assoc buf more rest) reads)

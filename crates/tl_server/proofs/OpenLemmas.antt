@@ -39,7 +39,7 @@ sent_takes a o sent result sends same = subst (λ (r : Result Outcome ServeFault
     taken (Err Read) s = absurd s
     taken (Err Write) s = s
 
--- the same of an index, as it was written
+-- an answer with an index that was sent is a course that was taken
 pub index_takes : (index : ℕ) (text : List ℕ) (o : Passage) (sent : Result (Option ℕ) ServeFault) (result : Result Outcome ServeFault) → text ≡ decimal index
     → Sends (record { status = 200; allow = []; kind = plain_text; body = text }) o sent → result ≡ outcome_of sent → Takes (Reply (index_answer index)) o result
 index_takes index text o sent result same sends is =
@@ -50,18 +50,18 @@ pub misplaced_whole : (o : Passage) (status : Option ℕ) → Sends (bare 500) o
 misplaced_whole o None sends = absurd sends
 misplaced_whole o (Some status) sends = (refl, sends.1)
 
--- or a part of it
+-- a part of the answer to an entry that isn't at the reported index was written
 pub misplaced_part : (o : Passage) (fault : ServeFault) → Sends (bare 500) o (Err fault) → Takes Misplace o (Err fault)
 misplaced_part o Read sends = absurd sends
 misplaced_part o Write sends = sends
 
--- no course comes to nothing
+-- no course has the outcome of no byte
 never_nothing : (c : Course) (o : Passage) → Takes c o (Ok outcome.Nothing) → ⊥
 never_nothing (Reply a) o takes = let same = takes.0 in absurd cc
 never_nothing Misplace o takes = let same = takes.0 in absurd cc
 never_nothing Postpone o takes = let same = takes.0 in absurd cc
 
--- nor to a failed read
+-- no course has the outcome of a failed read
 never_read : (c : Course) (o : Passage) → Takes c o (Err Read) → ⊥
 never_read (Reply a) o takes = takes
 never_read Misplace o takes = takes
@@ -99,7 +99,7 @@ headless_open Idle Decides i o status result idle is takes =
       takes = takes;
     })
 
--- an input with a head, which that and what follows it decide
+-- an input with a head: the head and what follows it decide
 pub decided_open : (Idle : Type 0) (Decides : Begun → Course → Type 0) (i o : Passage) (buf : List ℕ) (headers : List HeaderSpan) (len : ℕ) (spans : RequestSpans)
     (is : IsHeaded i buf headers len spans) (course : Course) (result : Result Outcome ServeFault)
     → ((rest : List ℕ) → Decides (record { head = head_in i buf headers len spans is; rest = drop spans.len (take len buf) ++ rest }) course)
@@ -133,7 +133,7 @@ took_after Idle Decides Courses a b c f g h o buf headers len spans result is de
   takes = took.takes;
 }
 
--- the same of whatever came of it
+-- a head was read, and then one request served with what follows it
 pub open_after : (Idle : Type 0) (Decides : Begun → Course → Type 0) (Courses : List ℕ → Course → Type 0) (a b c : Option (List ℕ)) (f g h : Bool) (o : Passage)
     (buf : List ℕ) (headers : List HeaderSpan) (len : ℕ) (spans : RequestSpans) (result : Result Outcome ServeFault)
     (is : IsHeaded (over a b f g) buf headers len spans)
@@ -163,7 +163,7 @@ rest_open Idle Courses i o bytes ended course result gave so takes = took_serves
 
 -- ---- the table
 
--- another target is answered as of a log
+-- another target is answered as by a log that takes no entries
 pub other_page : (Looks : (Resource → Answer → Type 0) → ℕ → ℕ → ℕ → Answer → Type 0) (Submits : List ℕ → EntryStatus → Type 0) (Idle Unasked Unseen : Type 0) (Gives : Resource → Answer → Type 0)
     (i o : Passage) (buf : List ℕ) (headers : List HeaderSpan) (len : ℕ) (spans : RequestSpans)
     (method target : List ℕ) (sent : Result (Option ℕ) ServeFault) (result : Result Outcome ServeFault)
@@ -180,13 +180,13 @@ other_page Looks Submits Idle Unasked Unseen Gives i o buf headers len spans met
     (λ rest. inl ((λ e. other (same_target ∙ (at.path ∙ e))), (unasked, (answered.answer, decided, refl))))
     (sent_takes answered.answer o sent result answered.sends same)
 
--- what the answer to a request without a body says
+-- the answer to a request without a body
 pub refused_course : (Unasked Unseen : Type 0) (Takes : List ℕ → Type 0) (posted : Posted) (rest : List ℕ) (a : Answer) → RefusesPost posted rest a → Unasked → Unseen
     → PostedRows (λ r. Unasked × Unseen × (Reply a ≡ Reply r)) Takes posted rest
 refused_course Unasked Unseen Takes posted rest a is unasked unseen =
     refused_rows (λ r. Unasked × Unseen × (Reply a ≡ Reply r)) Takes posted rest a is (unasked, unseen, refl)
 
--- what becomes of an entry that was read
+-- what an entry that was read leads to
 pub received_course : (Unasked Unseen : Type 0) (Submits : List ℕ → EntryStatus → Type 0) (Becomes : EntryStatus → List ℕ → Course → Type 0) (i : Passage) (posted : Posted) (part body entry rest : List ℕ) (entry_status : EntryStatus) (c : Course)
     (is : ReceivedBody i posted part body)
     → entry ≡ body → MayBe is.read.bytes false rest → Submits entry entry_status → Becomes entry_status entry c → PostCourses Unasked Unseen (SomeStatus Submits Becomes) posted part rest c
@@ -201,7 +201,7 @@ open_rows : (Unasked : Type 0) (Submits : List ℕ → EntryStatus → Type 0) (
     → OpenDecides Unasked Submits Unseen Gives Looks b c
 open_rows Unasked Submits Unseen Gives Looks b c same rows = inr (same, rows)
 
--- what was handed in decides as the table does
+-- a body that was sent decides as the table does
 pub open_posted : (Looks : (Resource → Answer → Type 0) → ℕ → ℕ → ℕ → Answer → Type 0) (Submits : List ℕ → EntryStatus → Type 0) (Unasked Unseen : Type 0) (Gives : Resource → Answer → Type 0)
     (i : Passage) (buf : List ℕ) (headers : List HeaderSpan) (len : ℕ) (spans : RequestSpans)
     (is : IsHeaded i buf headers len spans) (target : List ℕ) (posted : Posted) (rest : List ℕ) (course : Course)

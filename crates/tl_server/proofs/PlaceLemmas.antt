@@ -1,4 +1,4 @@
--- From looking for a bundle to what becomes of the entry that was reported to be there.
+-- From looking for a bundle to what the reported entry leads to.
 use Rattle.std.proofs.Common.{◌≡◌, ℕ, ◌<◌, ◌/◌, List, refl, sym, subst, inl, inr, vec_items}
 use Rattle.tl_tile.specs.Needed.{bundle_width}
 use Rattle.tl_tile.specs.declared.resource.Resource.{Resource}
@@ -9,7 +9,7 @@ use Rattle.tl_server.specs.Inner.Places.{IsLooked, LookedCourse}
 use Rattle.tl_server.specs.declared.look.Looked.{Looked}
 use Rattle.tl_server.specs.declared.look.Looked.TheVariants as looked
 
--- what is given where looks find a bundle
+-- what looking for a bundle finds is what a GET of it gives
 abbrev pub GivesWhatLooksFind : (Resource → Answer → Type 0) → (ℕ → ℕ → ℕ → Answer → Type 0) → Type 0
 GivesWhatLooksFind Gives Looks = (bundle width seen : ℕ) (a : Answer) → Looks bundle width seen a → Gives (resource.Entries bundle seen) a
 
@@ -20,7 +20,7 @@ twice_gives : (Gives : Resource → Answer → Type 0) → GivesWhatLooksFind Gi
 twice_gives Gives bundle width seen a (inl looks) = looks.0.1
 twice_gives Gives bundle width seen a (inr looks) = looks.1.1
 
--- what was found is this
+-- what was found is equal to this
 pub looked_as : {A : Type 0} (index : ℕ) (entry : List ℕ) (found other : Looked A) (c : Course) → found ≡ other → LookedCourse index entry other c → LookedCourse index entry found c
 looked_as index entry found other c same is = subst (λ (x : Looked _). LookedCourse index entry x c) (sym same) is
 
@@ -48,14 +48,14 @@ looked_places Unseen Gives Looks index size entry (looked.Bytes bytes seen) c gi
 looked_places Unseen Gives Looks index size entry (looked.Bytes bytes seen) c gives less looks (inr (lacks, is)) =
     inr (less, inr (seen, bundle_answer (vec_items bytes), looks, inr (inr (vec_items bytes, refl, lacks), is)))
 
--- the same over a board
+-- what looking for the bundle on the board gave decides as the table does
 pub looked_on_board : {A : Type 0} (Unseen : Type 0) (Gives : Resource → Answer → Type 0) (index size width : ℕ) (entry : List ℕ) (found : Looked A) (c : Course)
     → width ≡ bundle_width size (index / 256) → index < size → IsLooked (LooksOnce Gives (index / 256) width) found → LookedCourse index entry found c
     → PlaceAnswers Unseen Gives (LooksOnce Gives) index size entry c
 looked_on_board Unseen Gives index size width entry found c same less looks is =
     looked_places Unseen Gives (LooksOnce Gives) index size entry found c (once_gives Gives) less (subst (λ (w : ℕ). IsLooked (LooksOnce Gives (index / 256) w) found) same looks) is
 
--- and over a shelf
+-- what looking for the bundle on a shelf gave decides as the table does
 pub looked_on_shelf : {A : Type 0} (Unseen : Type 0) (Gives : Resource → Answer → Type 0) (index size width : ℕ) (entry : List ℕ) (found : Looked A) (c : Course)
     → width ≡ bundle_width size (index / 256) → index < size → IsLooked (LooksTwice Gives (index / 256) width) found → LookedCourse index entry found c
     → PlaceAnswers Unseen Gives (LooksTwice Gives) index size entry c

@@ -1,4 +1,4 @@
--- The body that a request hands in, and what is so of it.
+-- The body of a request, and what follows from it.
 use Rattle.std.proofs.Common.{◌≡◌, ◌⊎◌, ℕ, ◌+◌, ◌-◌, ◌<◌, ◌≤◌, List, [], ◌++◌, Bool, true, false, Option, length, length-append, take, drop, map, append_assoc, append-nil, ap, subst, sym, ◌∙◌, refl, inl, inr, arith, codes}
 use Rattle.std.proofs.lemmas.List.{take_rest}
 use Rattle.httparse.specs.Spans.{header_bytes, name_and_value, span_bytes}
@@ -28,7 +28,7 @@ no_body part bytes rest n short may body has =
     let size = has.length_is in
     absurd (omega (arith, whole, size, short))
 
--- a body stays one, whatever follows
+-- bytes that begin with a body begin with it whatever follows
 body_stays : (part bytes rest body : List ℕ) (n : ℕ) → HasBody (part ++ bytes) n body → MayBe bytes false rest → HasBody (part ++ rest) n body
 body_stays part bytes rest body n has may = record {
   after = has.after ++ may.more;
@@ -38,7 +38,7 @@ body_stays part bytes rest body n has may = record {
   length_is = has.length_is;
 }
 
--- what was handed in is this
+-- what the head says of the body is equal to this
 refuses_as : (posted other : Posted) (rest : List ℕ) (a : Answer) → posted ≡ other → RefusesPost other rest a → RefusesPost posted rest a
 refuses_as posted other rest a same is = subst (λ (x : Posted). RefusesPost x rest a) (sym same) is
 
@@ -61,7 +61,7 @@ refused_by_end i posted part n same cut = record {
   so = λ rest may. refuses_as posted (Sized n) (part ++ rest) (bare 400) same (inr (no_body part cut.bytes rest n cut.short may, refl));
 }
 
--- memory was refused
+-- an allocation failed
 pub refused_by_memory : (i : Passage) (posted : Posted) (part : List ℕ) (n : ℕ) → posted ≡ Sized n → Gave i [] false × (0 < n) → RefusedPost i posted part 500
 refused_by_memory i posted part n same none = record {
   bytes = [];
@@ -70,7 +70,7 @@ refused_by_memory i posted part n same none = record {
   so = λ rest may. refuses_as posted (Sized n) (part ++ rest) (bare 500) same (inl (none.1, refl));
 }
 
--- what the answer to a request without a body says
+-- the answer to a request without a body
 pub refused_rows : (Says : Answer → Type 0) (Takes : List ℕ → Type 0) (posted : Posted) (rest : List ℕ) (a : Answer) → RefusesPost posted rest a → Says a
     → PostedRows Says Takes posted rest
 refused_rows Says Takes OtherMethod rest a is says = subst Says is says
@@ -94,7 +94,7 @@ PostTable Says Takes most method fields rest =
     Unless (n ≤ most) (Says (bare 413))
     (((0 < n) × Says (bare 500)) ⊎ UnlessSome (HasBody rest n) (Says (bare 400)) Takes)))
 
--- what a head says decides as they do
+-- what a head says of the body decides as those rows do
 pub posted_table : (Says : Answer → Type 0) (Takes : List ℕ → Type 0) (most : ℕ) (method : List ℕ) (fields : List (List ℕ × List ℕ)) (posted : Posted) (rest : List ℕ)
     → AsksPost most method fields posted → PostedRows Says Takes posted rest → PostTable Says Takes most method fields rest
 posted_table Says Takes most method fields OtherMethod rest asks is = inl (asks, is)
@@ -102,7 +102,7 @@ posted_table Says Takes most method fields Unsized rest asks is = inr (asks.0, i
 posted_table Says Takes most method fields TooLarge rest asks is = inr (asks.0, inr (asks.1.0, asks.1.1, inl (asks.1.2, is)))
 posted_table Says Takes most method fields (Sized n) rest asks is = inr (asks.0, inr (n, asks.1, inr (asks.2, is)))
 
--- the same of the head that was read, and of what was read behind it
+-- the head that was read, and the bytes read behind it, decide as those rows do
 pub head_posted : (Says : Answer → Type 0) (Takes : List ℕ → Type 0) (most : ℕ) (i : Passage) (buf : List ℕ) (headers : List HeaderSpan) (len : ℕ) (spans : RequestSpans)
     (is : IsHeaded i buf headers len spans) (posted : Posted) (rest : List ℕ)
     → AsksPost most (span_bytes (take len buf) spans.method) (map (header_bytes (take len buf)) (take spans.headers headers)) posted

@@ -72,7 +72,7 @@ whole_begins i buf headers len spans is more input same =
       },
     )
 
--- what is so of every input that begins with what was read came of it
+-- what holds of every input that begins with the bytes read came of it
 pub came_decided : {X : Type 0} (So : List ℕ → X → Type 0) (i : Passage) (buf : List ℕ) (headers : List HeaderSpan) (len : ℕ) (spans : RequestSpans) (x : X)
     → IsHeaded i buf headers len spans → ((input more : List ℕ) → input ≡ take len buf ++ more → So input x) → Came So i x
 came_decided So i buf headers len spans x is so = record {
@@ -82,7 +82,7 @@ came_decided So i buf headers len spans x is so = record {
   so = λ input may. so input may.more may.joined;
 }
 
--- the same, where more was read behind a head
+-- what holds of every input that begins with a head and the bytes read behind it came of it
 pub came_after : {X : Type 0} (Rests So : List ℕ → X → Type 0) (a b c : Option (List ℕ)) (f g h : Bool) (buf : List ℕ) (headers : List HeaderSpan) (len : ℕ) (spans : RequestSpans) (x : X)
     → IsHeaded (over a b f g) buf headers len spans
     → ((input more : List ℕ) → input ≡ take len buf ++ more → Rests more x → So input x)
@@ -100,11 +100,11 @@ came_after Rests So a b c f g h buf headers len spans x is so came = record {
       so input (came.bytes ++ may.more) joined (came.so (came.bytes ++ may.more) (record { more = may.more; joined = refl; none = may.none }));
 }
 
--- nothing comes where something does
+-- there is always an answer to what follows a head
 pub something : {X : Type 0} (Rests : List ℕ → X → Type 0) (i : Passage) → Came (Rest Rests) i None → ⊥
 something Rests i came = came.so came.bytes (record { more = []; joined = sym (append-nil came.bytes); none = λ e. refl })
 
--- an input with a head, which that and what follows it decide
+-- an input with a head: the head and what follows it decide
 pub decided_serves : (Idle : Type 0) (Decides : Begun → Answer → Type 0) (i o : Passage) (buf : List ℕ) (headers : List HeaderSpan) (len : ℕ) (spans : RequestSpans)
     (is : IsHeaded i buf headers len spans) (answer : Answer) (result : Result (Option ℕ) ServeFault)
     → ((rest : List ℕ) → Decides (record { head = head_in i buf headers len spans is; rest = drop spans.len (take len buf) ++ rest }) answer)
@@ -120,7 +120,7 @@ decided_serves Idle Decides i o buf headers len spans is answer result decides s
       sends = sends;
     })
 
--- the same, where its method and its target decide
+-- an input with a head: its method and its target decide
 pub headed_serves : (Idle : Type 0) (Answers : List ℕ → List ℕ → Answer → Type 0) (i o : Passage) (buf : List ℕ) (headers : List HeaderSpan) (len : ℕ) (spans : RequestSpans)
     (method target : List ℕ) (result : Result (Option ℕ) ServeFault)
     → method ≡ span_bytes (take len buf) spans.method → target ≡ span_bytes (take len buf) spans.path

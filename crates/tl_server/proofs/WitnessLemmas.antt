@@ -40,7 +40,7 @@ sent_after Idle Decides Answers a b c f g h o buf headers len spans result is de
   sends = sent.sends;
 }
 
--- the same of whatever came of it
+-- a head was read, and then one request served with what follows it
 pub serves_after : (Idle : Type 0) (Decides : Begun → Answer → Type 0) (Answers : List ℕ → Answer → Type 0) (a b c : Option (List ℕ)) (f g h : Bool) (o : Passage)
     (buf : List ℕ) (headers : List HeaderSpan) (len : ℕ) (spans : RequestSpans) (result : Result (Option ℕ) ServeFault)
     (is : IsHeaded (over a b f g) buf headers len spans)
@@ -64,7 +64,7 @@ rest_serves Idle Answers i o bytes ended answer result gave so sends = sent_serv
   sends = sends;
 })
 
--- what the answer to a request without a body says
+-- the answer to a request without a body
 pub refused_answer : (Idle : Type 0) (Takes : List ℕ → Type 0) (posted : Posted) (rest : List ℕ) (a : Answer) → RefusesPost posted rest a → Idle
     → PostedRows (λ r. Idle × (a ≡ r)) Takes posted rest
 refused_answer Idle Takes posted rest a is idle = refused_rows (λ r. Idle × (a ≡ r)) Takes posted rest a is (idle, refl)
@@ -91,7 +91,7 @@ witness_rows Idle R method target fields rest a same (inr (posts, inr (n, sized,
     inr (same, inr (posts, inr (n, sized, inr (fits, inl (none.0, none.1.0, none.1.1)))))
 witness_rows Idle R method target fields rest a same (inr (posts, inr (n, sized, inr (fits, inr rows)))) = inr (same, inr (posts, inr (n, sized, inr (fits, inr rows))))
 
--- a body was handed in to another target
+-- a body was sent to another target
 pub other_target : (Idle : Type 0) (R : List ℕ → Answer → Type 0) (i o : Passage) (buf : List ℕ) (headers : List HeaderSpan) (len : ℕ) (spans : RequestSpans)
     (target : List ℕ) (result : Result (Option ℕ) ServeFault)
     → IsHeaded i buf headers len spans → target ≡ span_bytes (take len buf) spans.path → ¬ (target ≡ codes "/add-checkpoint") → Idle → Sends (bare 404) o result
@@ -99,7 +99,7 @@ pub other_target : (Idle : Type 0) (R : List ℕ → Answer → Type 0) (i o : P
 other_target Idle R i o buf headers len spans target result is same other idle sends =
     decided_serves Idle (WitnessDecides Idle R) i o buf headers len spans is (bare 404) result (λ rest. inl ((λ e. other (same ∙ (is.of.1.path ∙ e))), (idle, refl))) sends
 
--- what was handed in decides as the table does
+-- a body that was sent decides as the table does
 pub witness_posted : (Idle : Type 0) (R : List ℕ → Answer → Type 0) (i : Passage) (buf : List ℕ) (headers : List HeaderSpan) (len : ℕ) (spans : RequestSpans)
     (is : IsHeaded i buf headers len spans) (target : List ℕ) (posted : Posted) (rest : List ℕ) (answer : Answer)
     → target ≡ span_bytes (take len buf) spans.path → target ≡ codes "/add-checkpoint"

@@ -1,4 +1,4 @@
--- What a log that takes entries answers to a request. POST /add submits an entry, and is answered with its index.
+-- How a log that takes entries answers a request. POST /add submits an entry, and is answered with its index.
 use Rattle.std.specs.Prelude.{◌≡◌, ◌≢◌, ◌⊎◌, ℕ, ◌<◌, ◌≤◌, ◌/◌, ◌%◌, List, [], Bool, Some, codes, decimal, slice_get}
 use Rattle.tl_archive.specs.Shelves.{Held}
 use Rattle.tl_archive.specs.declared.fault.ShelfFault.{ShelfFault}
@@ -17,24 +17,24 @@ use Rattle.tl_server.specs.Log.{ResourceAnswers, LooksUp, ReadsShelf}
 use Rattle.tl_server.specs.declared.adding.EntryStatus.{EntryStatus}
 use Rattle.tl_server.specs.declared.adding.EntryStatus.TheVariants as entry_status
 
--- what becomes of a request
+-- what a request leads to
 pub data Course : Type 0 where
-  -- it is answered
+  -- it is answered like this
   Reply : Answer → Course
-  -- it is answered with 500: the resources don't have its entry at the index that was reported
+  -- it is answered with 500, because the entry isn't at the index that was reported
   Misplace : Course
   -- nothing is answered yet
   Postpone : Course
 
--- the answer to who asks for a bundle that is there
+-- the answer to a GET of a bundle that is there
 abbrev pub bundle_answer : Bytes → Answer
 bundle_answer bytes = record { status = 200; allow = []; kind = octets; body = bytes }
 
--- the answer that says an index
+-- the answer with an index
 abbrev pub index_answer : ℕ → Answer
 index_answer index = record { status = 200; allow = []; kind = plain_text; body = decimal index }
 
--- the resources gave a bundle in which the entry with this index is this one
+-- a bundle was given that has this entry at its index
 pub record HasAt (Gives : Resource → Answer → Type 0) (index : ℕ) (entry : Bytes) : Type 0 where
   pub width : ℕ
   pub entries : List Bytes
@@ -42,32 +42,34 @@ pub record HasAt (Gives : Resource → Answer → Type 0) (index : ℕ) (entry :
   pub gave : Gives (resource.Entries (index / 256) width) (bundle_answer (bundle_text entries))
   pub there : slice_get entries (index % 256) ≡ Some entry
 
--- these bytes are a bundle of so many entries, of which another one has this place, or none
+-- these bytes are a bundle of `width` entries, and at this place it has another entry or none
 pub record HasOther (bytes : Bytes) (width place : ℕ) (entry : Bytes) : Type 0 where
   pub entries : List Bytes
   pub are : AreEntries width entries
   pub spelled : bytes ≡ bundle_text entries
   pub other : slice_get entries place ≢ Some entry
 
--- what was given isn't this entry: no bundle, bytes that are none of so many entries, or another entry at the place
+-- what was given doesn't have this entry: there is no bundle, the bytes aren't a bundle of `width` entries, or it has
+-- another entry at the place
 abbrev pub LacksEntry : ℕ → ℕ → Bytes → Answer → Type 0
 LacksEntry width place entry a =
     (a ≡ bare 404)
     ⊎ ((bytes : Bytes) × (a ≡ bundle_answer bytes)
     × (¬ IsBundle bytes width ⊎ HasOther bytes width place entry))
 
--- looking for the bundle with this index and width gave an answer: `seen` is the width that was looked at last.
--- One look: a board has the partial bundle of each publication
+-- looking for the bundle with this index and width gave this answer; `seen` is the width that was read last. One read
+-- is enough on a board, which has the partial bundle of each publication
 abbrev pub LooksOnce : (Resource → Answer → Type 0) → ℕ → ℕ → ℕ → Answer → Type 0
 LooksOnce Gives bundle width seen a = (seen ≡ width) × Gives (resource.Entries bundle seen) a
 
--- one look, and one at the full bundle where that one isn't there, which a shelf may have in its place
+-- one read, and one of the full bundle if that one isn't there; a shelf may have dropped a partial bundle for the
+-- full one
 abbrev pub LooksTwice : (Resource → Answer → Type 0) → ℕ → ℕ → ℕ → Answer → Type 0
 LooksTwice Gives bundle width seen a =
     (LooksOnce Gives bundle width seen a × (a.status ≢ 404))
     ⊎ (Gives (resource.Entries bundle width) (bare 404) × LooksOnce Gives bundle 256 seen a)
 
--- the rows of the table below for an index in a log of so many entries
+-- the last cases of the table below: the log has `size` entries, and the entry is reported at this index
 abbrev pub PlaceAnswers
     : Type 0 → (Resource → Answer → Type 0) → (ℕ → ℕ → ℕ → Answer → Type 0)
     → ℕ → ℕ → Bytes → Course → Type 0
@@ -78,7 +80,7 @@ PlaceAnswers Unseen Gives Looks index size entry c =
     × (((a ≡ bare 500) × (c ≡ Reply (bare 500)))
     ⊎ (LacksEntry seen (index % 256) entry a × (c ≡ Misplace)))))
 
--- the same for the status of an entry
+-- the cases of the table below for the reported status of an entry
 abbrev pub StatusAnswers
     : Type 0 → (Resource → Answer → Type 0) → (ℕ → ℕ → ℕ → Answer → Type 0)
     → Bytes → EntryStatus → Course → Type 0
@@ -87,22 +89,22 @@ StatusAnswers Unseen Gives Looks entry entry_status.Refused c = Unseen × (c ≡
 StatusAnswers Unseen Gives Looks entry entry_status.NoMemory c = Unseen × (c ≡ Reply (bare 500))
 StatusAnswers Unseen Gives Looks entry (entry_status.At index size) c = PlaceAnswers Unseen Gives Looks index size entry c
 
--- the table of a log that takes entries, of which the first row that applies decides:
---     as of a log  the target isn't /add
+-- what a request to a log that takes entries leads to, by the first case that applies:
+--     any  the target isn't /add: answered as by a log that takes no entries
 --     405  the method isn't POST
 --     400  the fields don't say how long the body is
---     413  it has more than 65,535 bytes
---     500  it has some, and memory for them was refused
---     400  the input ends before it
---     --   its status: its index isn't known yet
---     503  its status: the log takes nothing now, or hasn't published the entry in time
---     500  its status: allocation failed
---     500  its status: an index that isn't below the size reported with it: misplaced
---     200  its status: an index, and the resources gave a bundle that has the entry there
+--     413  the body has more than 65,535 bytes
+--     500  it has some, and an allocation for them failed
+--     400  the input ends before the body does
+--     --   its index isn't known yet: nothing is answered
+--     503  the log takes nothing now, or hasn't published the entry in time
+--     500  an allocation failed while the entry was submitted
+--     500  its reported index isn't below the size reported with it: misplaced
+--     200  it has an index, and a bundle was given that has the entry there
 --     500  the bundle was looked for, and a GET of it is answered with 500
---     500  the bundle was looked for, and what was given isn't the entry: misplaced
+--     500  the bundle was looked for, and what was given doesn't have the entry: misplaced
 -- Unasked says that no entry was submitted, Submits that one call reported this status of an entry, Unseen that no
--- resource was looked at, Gives what a GET of a resource is answered with, Looks what looking for a bundle gave
+-- resource was read, Gives how a GET of a resource is answered, Looks what looking for a bundle gave
 abbrev pub OpenDecides
     : Type 0 → (Bytes → EntryStatus → Type 0)
     → Type 0 → (Resource → Answer → Type 0) → (ℕ → ℕ → ℕ → Answer → Type 0)
@@ -117,12 +119,12 @@ OpenDecides Unasked Submits Unseen Gives Looks b c =
     ⊎ UnlessSome (HasBody b.rest n) (Unasked × Unseen × (c ≡ Reply (bare 400))) (λ entry.
     (entry_status : EntryStatus) × Submits entry entry_status × StatusAnswers Unseen Gives Looks entry entry_status c)))))
 
--- the same over a board
+-- the same table for a log on the board
 abbrev pub OpenLogDecides : Type 0 → Type 0 → (Bytes → EntryStatus → Type 0) → Past → Past → Begun → Course → Type 0
 OpenLogDecides A Unasked Submits old new =
     OpenDecides Unasked Submits (new ≡ old) (LooksUp A old new) (LooksOnce (LooksUp A old new))
 
--- the same over a shelf
+-- the same table for a log on a shelf
 abbrev pub OpenShelfDecides
     : Type 0 → Type 0 → (Bytes → EntryStatus → Type 0)
     → Bool → Held → (Resource → ShelfFault → Type 0)

@@ -3,7 +3,7 @@ use Rattle.std.specs.Prelude.{ℕ, [], ◌∷◌, ◌++◌, length, ◌==◌, if
 use Rattle.std.specs.List.{flat_map}
 use Rattle.tl_hash.specs.Bytes.{Bytes}
 
--- what is answered: the status, the allowed method where another was used, and a body with its type
+-- an answer: the status, the allowed method if another one was used, and a body with its media type
 pub record Answer : Type 0 where
   pub status : ℕ
   pub allow : Bytes
@@ -14,7 +14,7 @@ pub record Answer : Type 0 where
 abbrev pub bare : ℕ → Answer
 bare status = record { status = status; allow = []; kind = []; body = [] }
 
--- the answer to a method that isn't the one allowed (RFC 9110, section 15.5.6)
+-- the answer to a method other than the one allowed (RFC 9110, section 15.5.6)
 abbrev pub not_allowed : Bytes → Answer
 not_allowed method = record { status = 405; allow = method; kind = []; body = [] }
 
@@ -37,21 +37,21 @@ phrase status =
 abbrev pub crlf : Bytes
 crlf = 13 ∷ 10 ∷ []
 
--- a field of a head, left out where it has no value
+-- a field of a head, left out if it has no value
 abbrev pub field_line : Bytes → Bytes → Bytes
 field_line name [] = []
 field_line name (b ∷ value) = name ++ (b ∷ value) ++ crlf
 
--- the field of a 503 that tells after how many seconds to ask again (RFC 9110, section 10.2.3)
+-- the field of a 503 that gives the seconds after which to ask again (RFC 9110, section 10.2.3)
 abbrev pub retry_line : ℕ → Bytes
 retry_line status = if status == 503 then codes "Retry-After: 1" ++ crlf else []
 
--- the type of a body, left out where there is no body
+-- the field with the type of a body, left out if there is no body
 abbrev pub type_line : Bytes → Bytes → Bytes
 type_line kind [] = []
 type_line kind (b ∷ body) = codes "Content-Type: " ++ kind ++ crlf
 
--- types of bodies (C2SP tlog-tiles, tlog-witness)
+-- media types of bodies (C2SP tlog-tiles, tlog-witness)
 abbrev pub plain_text : Bytes
 plain_text = codes "text/plain; charset=utf-8"
 
@@ -61,7 +61,7 @@ octets = codes "application/octet-stream"
 abbrev pub log_size : Bytes
 log_size = codes "text/x.tlog.size"
 
--- the answer where an entry isn't published: nothing is taken now, or it took too long
+-- the answer to an entry that isn't published: the log takes nothing now, or it took too long
 abbrev pub busy : Answer
 busy = record { status = 503; allow = []; kind = plain_text; body = codes "not published yet: post it again\n" }
 

@@ -10,14 +10,15 @@ pub record HasHead (input : Bytes) (head : RequestHead) (rest : Bytes) : Type 0 
   pub short : length (print_request head) ≤ 8192
   pub few : length head.fields ≤ 64
 
--- the fields say once that a body of n bytes follows, and no field says that it is sent otherwise (RFC 9112, section 6)
+-- the fields give the length of the body once, as n bytes, and no field says that it is sent in another form (RFC
+-- 9112, section 6)
 pub record IsSized (fields : List (Bytes × Bytes)) (n : ℕ) : Type 0 where
   pub plain : values_of (codes "Transfer-Encoding") fields ≡ []
   pub text : Bytes
   pub once : values_of (codes "Content-Length") fields ≡ text ∷ []
   pub length_is : IsNumber text n
 
--- the next n bytes of rest are this body
+-- the first n bytes of `rest` are this body
 pub record HasBody (rest : Bytes) (n : ℕ) (body : Bytes) : Type 0 where
   pub after : Bytes
   pub joined : rest ≡ body ++ after

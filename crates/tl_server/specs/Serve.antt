@@ -7,14 +7,14 @@ use Rattle.tl_server.specs.Answer.{Answer, answer_text}
 use Rattle.tl_server.specs.declared.fault.ServeFault.{ServeFault}
 use Rattle.tl_server.specs.declared.fault.ServeFault.TheVariants.{Read, Write}
 
--- this is the answer to what was read, or else what becomes of it, whatever may follow
+-- this is the answer, or the course, of the bytes read and whatever may follow them
 pub record Came {X : Type 0} (Answers : Bytes → X → Type 0) (i : Passage) (answer : X) : Type 0 where
   pub bytes : Bytes
   pub ended : Bool
   pub gave : Gave i bytes ended
   pub so : (input : Bytes) → MayBe bytes ended input → Answers input answer
 
--- sending an answer: its status, or that the writer failed after some of its first bytes
+-- sending an answer: all of it is written, or the writer fails after a part of it
 abbrev pub Sends : Answer → Passage → Result (Option ℕ) ServeFault → Type 0
 Sends a o (Ok (Some status)) = (status ≡ a.status) × WroteWhole o (answer_text a)
 Sends a o (Ok None) = ⊥
@@ -28,7 +28,7 @@ pub record Sent
   pub came : Came Answers i (Some answer)
   pub sends : Sends answer o result
 
--- one request: i is its reader, o its writer. Nothing is written where no byte came or a read failed
+-- one request; i is its reader, o its writer. Nothing is written if no byte came or a read failed
 abbrev pub Serves
     : Type 0 → (Bytes → Option Answer → Type 0) → Passage → Passage → Result (Option ℕ) ServeFault → Type 0
 Serves Idle Answers i o (Ok None) = Came Answers i None × IsUnwritten o

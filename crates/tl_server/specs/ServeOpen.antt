@@ -12,8 +12,8 @@ use Rattle.tl_server.specs.declared.adding.Outcome.TheVariants.{Nothing, Answere
 use Rattle.tl_server.specs.declared.fault.ServeFault.{ServeFault}
 use Rattle.tl_server.specs.declared.fault.ServeFault.TheVariants.{Read, Write}
 
--- nothing becomes of no byte; an input without a head has its status; else the head and what follows it decide.
--- Idle says that nothing else was asked
+-- no byte leads to nothing, and an input without a head to its status; else the head and what follows it decide. Idle
+-- says that nothing else was asked
 abbrev pub OpenExchange : Type 0 → (Begun → Course → Type 0) → Bytes → Option Course → Type 0
 OpenExchange Idle Decides input None = (input ≡ []) × Idle
 OpenExchange Idle Decides input (Some c) =
@@ -21,13 +21,13 @@ OpenExchange Idle Decides input (Some c) =
     × UnlessSome (Begins input) (Idle × ((status : ℕ) × IsHeadless input status × (c ≡ Reply (bare status)))) (λ b.
     Decides b c)
 
--- writing a text: what comes of it, or that the writer failed after some of its first bytes
+-- writing a text: all of it is written with this outcome, or the writer fails after a part of it
 abbrev pub Writes : Bytes → Outcome → Passage → Result Outcome ServeFault → Type 0
 Writes text outcome o (Ok got) = (got ≡ outcome) × WroteWhole o text
 Writes text outcome o (Err Write) = WrotePart o text
 Writes text outcome o (Err Read) = ⊥
 
--- taking a course; nothing is written where it is to answer later
+-- taking a course; nothing is written if the answer comes later
 abbrev pub Takes : Course → Passage → Result Outcome ServeFault → Type 0
 Takes (Reply a) o result = Writes (answer_text a) (Answered a.status) o result
 Takes Misplace o result = Writes (answer_text (bare 500)) Misplaced o result
@@ -39,7 +39,7 @@ pub record Took (Courses : Bytes → Option Course → Type 0) (i o : Passage) (
   pub came : Came Courses i (Some course)
   pub takes : Takes course o result
 
--- one request: i is its reader, o its writer. Nothing is written where no byte came or a read failed
+-- one request; i is its reader, o its writer. Nothing is written if no byte came or a read failed
 abbrev pub ServesOpen
     : Type 0 → (Bytes → Option Course → Type 0) → Passage → Passage → Result Outcome ServeFault → Type 0
 ServesOpen Idle Courses i o (Ok Nothing) = Came Courses i None × IsUnwritten o

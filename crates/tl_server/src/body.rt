@@ -8,7 +8,7 @@ use std::alloc::Allocator;
 use std::io::Read;
 use tl_device::Counted;
 
-// What came of filling a buffer.
+// The result of filling a buffer.
 #[derive(Clone, Copy)]
 pub(crate) enum Filled {
     // A read failed.
@@ -19,7 +19,7 @@ pub(crate) enum Filled {
     Whole,
 }
 
-// Fills a buffer from a place on.
+// Fills a buffer from the index `from` on.
 fn fill<I: Read>(reader: &mut Counted<I>, buf: &mut [u8], from: usize) -> Filled
     requires { from ≤ length buf.old }
     ensures { Fills (passage I.remaining reader.old reader.new) from buf.old buf.new result }
@@ -38,20 +38,20 @@ fn fill<I: Read>(reader: &mut Counted<I>, buf: &mut [u8], from: usize) -> Filled
     Filled::Whole
 }
 
-/// What came of reading a body.
+/// The result of reading a body.
 #[derive(Drop)]
 pub(crate) enum Body<A: Allocator> {
     /// A read failed.
     Failed,
     /// The whole body.
     Whole(Vec<u8, A>),
-    /// The input ended before it.
+    /// The input ended before the whole body came.
     Cut,
-    /// Memory for it was refused.
+    /// Allocation failed.
     NoMemory,
 }
 
-/// Reads a body of so many bytes, of which the first may have come with the head, into one buffer of that length.
+/// Reads a body of `most` bytes, of which the first may have come with the head, into one buffer of that length.
 pub(crate) fn read_body<A: Allocator, I: Read>(
     alloc: A,
     reader: &mut Counted<I>,

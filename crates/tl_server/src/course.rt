@@ -1,4 +1,4 @@
-//! Taking the course that was decided on.
+//! Answering to a submitted entry.
 
 ghost use Rattle.std.specs.Prelude.{◌≡◌};
 ghost use Rattle.tl_device.specs.Device.{passage};
@@ -17,7 +17,7 @@ use std::alloc::Allocator;
 use std::io::Write;
 use tl_device::Counted;
 
-/// What comes of sending an answer.
+/// Returns the outcome of sending an answer.
 pub(crate) fn outcome_of(sent: Result<Option<u16>, ServeFault>) -> Result<Outcome, ServeFault>
     ensures { result ≡ outcome_of sent }
 {
@@ -28,7 +28,7 @@ pub(crate) fn outcome_of(sent: Result<Option<u16>, ServeFault>) -> Result<Outcom
     }
 }
 
-/// Answers that an entry isn't at the index that was reported.
+/// Answers 500, because the entry isn't at the index that was reported.
 pub(crate) fn answer_misplaced<O: Write>(writer: &mut Counted<O>) -> Result<Outcome, ServeFault>
     ensures { Takes Misplace (passage O.contents writer.old writer.new) result }
 {
@@ -38,7 +38,7 @@ pub(crate) fn answer_misplaced<O: Write>(writer: &mut Counted<O>) -> Result<Outc
     }
 }
 
-// Answers with an index.
+// Answers 200 with an index.
 fn answer_index<O: Write>(writer: &mut Counted<O>, index: u64) -> Result<Outcome, ServeFault>
     ensures { Takes
         (Reply (index_answer index)) (passage O.contents writer.old writer.new) result }
@@ -48,7 +48,7 @@ fn answer_index<O: Write>(writer: &mut Counted<O>, index: u64) -> Result<Outcome
     outcome_of(send(writer, 200, b"", b"text/plain; charset=utf-8", text))
 }
 
-/// Answers to an entry that was reported to have this index, by what looking for its bundle gave.
+/// Answers to an entry that was reported to have this index, after its bundle was looked for.
 pub(crate) fn answer_looked<A: Allocator, O: Write>(
     writer: &mut Counted<O>,
     index: u64,

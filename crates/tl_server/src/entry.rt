@@ -1,10 +1,10 @@
-//! An entry in the bytes of a bundle. Nothing here takes memory.
+//! An entry in the bytes of a bundle. Nothing here allocates.
 
 ghost use Rattle.std.specs.Prelude.{◌≡◌, ◌++◌, MatchBool, MatchOption};
 ghost use Rattle.tl_server.specs.Inner.Places.{Finds, FindsNone, HasEntry, LacksIt};
 ghost use Rattle.tl_tile.specs.Bundle.{IsPartialEntry, IsShortEntry, bundled_entry};
 
-// The first entry, and the bytes after it.
+// Returns the first entry and the bytes after it.
 fn first_entry(bytes: &[u8]) -> Option<(&[u8], &[u8])>
     ensures { MatchOption result (IsPartialEntry bytes.now)
         (λ x. IsShortEntry x.0.now × (bytes.now ≡ bundled_entry x.0.now ++ x.1.now)) }
@@ -20,7 +20,7 @@ fn first_entry(bytes: &[u8]) -> Option<(&[u8], &[u8])>
     Some(rest.split_at(len))
 }
 
-// The entry at this place, where the bytes are a bundle of so many entries.
+// Returns the entry at this place, if the bytes are a bundle of `width` entries.
 fn entry_at(bytes: &[u8], width: u32, place: u32) -> Option<&[u8]>
     ensures { MatchOption result (FindsNone bytes.now width place)
         (λ entry. HasEntry bytes.now width place entry.now) }
@@ -39,7 +39,7 @@ fn entry_at(bytes: &[u8], width: u32, place: u32) -> Option<&[u8]>
     if rest.is_empty() { found } else { None }
 }
 
-/// Whether the bytes are a bundle of so many entries that has this one at this place.
+/// Reports whether the bytes are a bundle of `width` entries with this one at this place.
 pub(crate) fn has_entry(bytes: &[u8], width: u32, place: u32, entry: &[u8]) -> bool
     ensures { MatchBool result (HasEntry bytes.now width place entry.now)
         (LacksIt bytes.now width place entry.now) }

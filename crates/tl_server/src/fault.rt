@@ -1,4 +1,4 @@
-//! Why a request has no whole answer.
+//! Why a request isn't answered completely.
 
 ghost use Rattle.std.specs.Prelude.{◌≡◌};
 ghost use Rattle.tl_server.specs.declared.fault.ServeFault.TheVariants as serve;
@@ -6,13 +6,13 @@ ghost use Rattle.tl_server.specs.declared.fault.ServeFault.TheVariants as serve;
 use thiserror::Error;
 use tl_device::WriteFault;
 
-/// Why a request has no whole answer. What was asked before the fault stands.
+/// Why a request isn't answered completely. An entry submitted or a link saved before the fault stays so.
 #[derive(Clone, Copy, Debug, PartialEq, Eq, Error)]
 pub enum ServeFault {
     /// A read failed. Nothing was written.
     #[error("read failed")]
     Read,
-    /// A write failed, or took no byte. Some of the answer's first bytes were written.
+    /// A write failed, or took no byte. A part of the answer was written.
     #[error("write failed")]
     Write,
 }

@@ -1,4 +1,4 @@
-//! The length of a request's body, by the fields of its head.
+//! The length of a request's body, from the fields of its head.
 
 ghost use Rattle.std.specs.Prelude.{◌-◌, ◌<◌, ◌^◌, All, length, map};
 ghost use Rattle.httparse.specs.Spans.{IsHeaderWithin, header_bytes};
@@ -7,18 +7,18 @@ ghost use Rattle.tl_server.specs.Inner.Fields.{SizesBody};
 use httparse::spans::HeaderSpan;
 use tl_http::{Values, number_in, values_in};
 
-/// How long a body is.
+/// The length of a body.
 #[derive(Clone, Copy)]
 pub(crate) enum Length {
-    /// The fields don't say it.
+    /// The fields don't give it.
     Unknown,
     /// It is above the limit.
     TooLarge,
-    /// It has so many bytes.
+    /// It is this many bytes.
     Is(u64),
 }
 
-/// The length of the body that follows a head with these fields, of at most so many bytes.
+/// Returns the length of the body that follows a head with these fields, up to `most` bytes.
 pub(crate) fn length_in(buf: &[u8], headers: &[HeaderSpan], most: u64) -> Length
     requires within { All (IsHeaderWithin (length buf.now)) headers.now }
     requires counted { most < 2 ^ 64 - 1 }

@@ -15,31 +15,31 @@ pub(crate) const MOST_HEAD: usize = 8192;
 /// The most fields of a head.
 pub(crate) const MOST_FIELDS: usize = 64;
 
-/// What a reader gave in front of a body.
+/// The result of reading a head.
 #[derive(Clone, Copy)]
 pub(crate) enum HeadRead {
     /// A read failed.
     Failed,
-    /// No byte.
+    /// The input ended before a byte came.
     Nothing,
-    /// No head within the limits, and the status that says so.
+    /// There is no head within the limits; the status to answer with.
     NoHead(u16),
-    /// A head, with how many bytes were read in all and where its parts are among them.
+    /// A head: how many bytes were read in all, and where its parts are among them.
     Head(usize, RequestSpans),
 }
 
-// What the parser says of bytes.
+// What the parser reports of some bytes.
 #[derive(Clone, Copy)]
 pub(crate) enum Parsed {
     // They begin with a head.
     Whole(RequestSpans),
-    // They begin with no head; more may come.
+    // They don't hold a whole head; more may come.
     Partial,
-    // Whatever follows, they begin with no head of so few fields.
+    // They begin with no head of at most 64 fields, whatever follows.
     Refused,
 }
 
-// Parses bytes.
+// Parses bytes as the head of a request.
 fn parse(bytes: &[u8], headers: &mut [HeaderSpan]) -> Parsed
     requires { length headers.old ≡ 64 }
     ensures { Parses bytes.now headers.new result }
@@ -51,7 +51,8 @@ fn parse(bytes: &[u8], headers: &mut [HeaderSpan]) -> Parsed
     }
 }
 
-/// Reads until the bytes begin with a head, can begin with none, are as many as a head may have, or end.
+/// Reads until the bytes begin with a head or can't begin with one, until the buffer is full, or until the input
+/// ends.
 pub(crate) fn read_head<I: Read>(
     reader: &mut Counted<I>,
     buf: &mut [u8],

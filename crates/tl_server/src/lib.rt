@@ -1,21 +1,30 @@
-//! One request over HTTP/1.1: to a log, whose resources a reader of its board has or a shelf (C2SP tlog-tiles), which
-//! may take entries, and to a witness (C2SP tlog-witness). After its answer the connection is closed.
+//! A server's half of HTTP/1.1: answers one request to a log (C2SP tlog-tiles) or to a witness (C2SP tlog-witness),
+//! over any reader and writer. The connection is closed after the answer.
 //!
-//! ```
+//! `serve_log` answers GET requests for the resources of a log, its checkpoint, tiles and bundles, from a reader of
+//! the board in memory; `serve_shelf` does the same from a `Shelf`, such as a folder. `serve_open_log` and
+//! `serve_open_shelf` answer these requests too, and take entries: `POST /add` submits the body to a queue
+//! (`Submits`), and is answered with the entry's index once the published bundle has the entry there. `serve_witness`
+//! answers a witness's add-checkpoint requests.
+//!
+//! Each call reads one request and writes one answer. Accepting connections, threads and time limits are the
+//! caller's.
+//!
+//! ```rust
 //! let mut reader = Counted::new(&stream);
 //! let mut writer = Counted::new(&stream);
 //! match serve_log(alloc, &mut reader, &mut writer, &mut board) {
-//!     Ok(Some(status)) => {} // the whole answer was written
+//!     Ok(Some(status)) => {} // the whole answer was written, with this status
 //!     Ok(None) => {}         // the connection was closed without a byte
 //!     Err(_) => {}           // a read or a write failed
 //! }
 //!
 //! match serve_open_log(alloc, &mut reader, &mut writer, &mut board, &mut queue) {
-//!     Ok(Outcome::Answered(status)) => {} // the same, or the index of an entry that the board has there
-//!     Ok(Outcome::Later) => {}            // its index isn't known yet: call again with the same bytes
-//!     Ok(Outcome::Misplaced) => {}        // the board doesn't have it at the reported index
-//!     Ok(Outcome::Nothing) => {}
-//!     Err(_) => {}
+//!     Ok(Outcome::Answered(status)) => {} // the whole answer was written: 200 has the index of the posted entry
+//!     Ok(Outcome::Later) => {}            // the index isn't known yet: call again with the same bytes
+//!     Ok(Outcome::Misplaced) => {}        // answered 500: the board doesn't have the entry at the reported index
+//!     Ok(Outcome::Nothing) => {}          // the connection was closed without a byte
+//!     Err(_) => {}                        // a read or a write failed
 //! }
 //! ```
 #![tactic(auto)]

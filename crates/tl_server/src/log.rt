@@ -19,7 +19,7 @@ use tl_device::Counted;
 use tl_publisher::{BoardReader, GetFault};
 use tl_tile::{Resource, parse_path};
 
-/// The resource that a target asks for.
+/// Returns the resource that a target asks for.
 pub(crate) fn resource_of(target: &[u8]) -> Option<Resource>
     requires { IsUtf8 target.now }
     ensures { MatchOption result ((r : _) → ¬ (AsksFor target.now r)) (λ r. AsksFor target.now r) }
@@ -33,7 +33,7 @@ pub(crate) fn resource_of(target: &[u8]) -> Option<Resource>
     }
 }
 
-/// The type of a resource's bytes.
+/// Returns the media type of a resource.
 pub(crate) fn type_of(resource: &Resource) -> &'static [u8]
     ensures { result.now ≡ kind_of resource.now }
 {
@@ -43,7 +43,7 @@ pub(crate) fn type_of(resource: &Resource) -> &'static [u8]
     }
 }
 
-// Answers with what a look at the board gave.
+// Answers with what the board has under a resource.
 fn answer_look<A: Allocator, O: Write>(
     writer: &mut Counted<O>,
     resource: &Resource,
@@ -60,7 +60,7 @@ fn answer_look<A: Allocator, O: Write>(
     }
 }
 
-/// Answers a request by its method and its target.
+/// Answers a request with this method and target.
 pub(crate) fn answer_log<A: Allocator, B: Allocator, O: Write>(
     alloc: A,
     writer: &mut Counted<O>,
@@ -82,9 +82,9 @@ pub(crate) fn answer_log<A: Allocator, B: Allocator, O: Write>(
     answer_look(writer, &resource, look)
 }
 
-/// Answers one request to a log (C2SP tlog-tiles), and gives the status, or none where no byte came: 400 or 431 without
-/// a head (RFC 9112, section 3; RFC 6585, section 5), 404 where the board has no such resource or is gone, 405 for
-/// another method than GET, 500 where memory for the bytes of one that it has was refused, else 200. A body isn't read.
+/// Answers one request to a log (C2SP tlog-tiles), and returns the status, or `None` if no byte came: 400 or 431 if
+/// there is no head (RFC 9112, section 3; RFC 6585, section 5), 404 if the board has no such resource or is gone, 405
+/// if the method isn't GET, 500 if an allocation for the resource's bytes fails, else 200. A body isn't read.
 pub fn serve_log<A: Allocator, B: Allocator, I: Read, O: Write>(
     alloc: A,
     reader: &mut Counted<I>,

@@ -10,18 +10,18 @@ use tl_archive::Shelf;
 use tl_publisher::{BoardReader, GetFault};
 use tl_tile::Resource;
 
-/// What looking for a bundle gave.
+/// The result of looking for a bundle.
 #[derive(Drop)]
 pub(crate) enum Looked<A: Allocator> {
-    /// A look failed.
+    /// Reading the bundle failed.
     Failed,
-    /// There is none.
+    /// There is no such bundle.
     Nothing,
-    /// Its bytes, and its width.
+    /// Its bytes and its width.
     Bytes(Vec<u8, A>, u32),
 }
 
-/// Looks for a bundle on the board, which has the partial one of each publication.
+/// Looks for a bundle on the board, which has the partial bundle of each publication.
 pub(crate) fn look_on_board<A: Allocator, B: Allocator>(
     alloc: A,
     board: &mut BoardReader<B>,
@@ -60,8 +60,8 @@ fn read_once<A: Allocator, S: Shelf>(alloc: A, shelf: &S, bundle: u64, width: u3
     }
 }
 
-/// Looks for a bundle on the shelf, and for the full one where a partial one isn't there: a shelf may lose its partial
-/// ones once it has the full one.
+/// Looks for a bundle on the shelf, and for the full one if that is partial and isn't there: a shelf may drop a
+/// partial bundle once it has the full one.
 pub(crate) fn look_on_shelf<A: Allocator + Copy, S: Shelf>(
     alloc: A,
     shelf: &S,

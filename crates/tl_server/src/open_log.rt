@@ -54,7 +54,7 @@ fn answer_status<A: Allocator, B: Allocator, O: Write>(
     answer_looked(writer, index, entry, looked)
 }
 
-// Receives the body that a head announces, and submits the entry. Some of the body was read with the head.
+// Receives the body that a head announces, and submits it as an entry. `part` is the part that came with the head.
 fn answer_posted<A: Allocator + Copy, B: Allocator, T: Submits, I: Read, O: Write>(
     alloc: A,
     reader: &mut Counted<I>,
@@ -81,10 +81,11 @@ fn answer_posted<A: Allocator + Copy, B: Allocator, T: Submits, I: Read, O: Writ
     }
 }
 
-/// Answers one request to a log that takes entries: as `serve_log`, and `POST /add` with the index of the entry in its
-/// body, if the board has it there: 405 for another method, 400 without one `Content-Length` (RFC 9112, section 6),
-/// 413 above 65,535 bytes, 400 if the input ends before them, 503 if it isn't published, 500 if allocation fails or the
-/// entry isn't there. If its index isn't known yet nothing is written: call again with the same bytes.
+/// Answers one request to a log that takes entries: as `serve_log`, and `POST /add` with the index of the entry in
+/// its body, once the board has it there. The status is 405 for another method, 400 without one `Content-Length` (RFC
+/// 9112, section 6), 413 above 65,535 bytes, 400 if the input ends before the body does, 503 if the entry isn't
+/// published, 500 if allocation fails or the entry isn't there. If its index isn't known yet nothing is written: call
+/// again with the same bytes.
 pub fn serve_open_log<A: Allocator + Copy, B: Allocator, T: Submits, I: Read, O: Write>(
     alloc: A,
     reader: &mut Counted<I>,

@@ -52,7 +52,7 @@ fn answer_status<A: Allocator + Copy, S: Shelf, O: Write>(
     answer_looked(writer, index, entry, looked)
 }
 
-// Receives the body that a head announces, and submits the entry. Some of the body was read with the head.
+// Receives the body that a head announces, and submits it as an entry. `part` is the part that came with the head.
 fn answer_posted<A: Allocator + Copy, S: Shelf, T: Submits, I: Read, O: Write>(
     alloc: A,
     reader: &mut Counted<I>,
@@ -80,9 +80,8 @@ fn answer_posted<A: Allocator + Copy, S: Shelf, T: Submits, I: Read, O: Write>(
     }
 }
 
-/// Answers one request to a log that takes entries, with what is on a shelf: `POST /add` as `serve_open_log`, and any
-/// other target as `serve_shelf`. A shelf may have the full bundle in place of the one for the size: it is read if
-/// that one isn't there.
+/// Answers one request to a log on a shelf that takes entries: `POST /add` as `serve_open_log`, and any other target
+/// as `serve_shelf`. If a shelf doesn't have the bundle for the reported size, the full bundle is read instead.
 pub fn serve_open_shelf<A: Allocator + Copy, S: Shelf, T: Submits, I: Read, O: Write>(
     alloc: A,
     reader: &mut Counted<I>,

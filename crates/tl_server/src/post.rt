@@ -25,7 +25,7 @@ use tl_witness::Saver;
 /// The most bytes of a request's body.
 const MOST_BODY: u64 = 1_048_576;
 
-// The type of a reply's body.
+// Returns the media type of a reply's body.
 fn type_of(status: u16) -> &'static [u8]
     ensures { result.now ≡ reply_kind status }
 {
@@ -36,7 +36,7 @@ fn type_of(status: u16) -> &'static [u8]
     }
 }
 
-// Sends a reply of the witness.
+// Writes the witness's reply.
 fn send_reply<O: Write>(
     writer: &mut Counted<O>,
     status: u16,
@@ -48,7 +48,7 @@ fn send_reply<O: Write>(
     send(writer, status, b"", type_of(status), body)
 }
 
-// Replies to a body of which a head says so much. Some of what follows was read with the head.
+// Receives the body that a head announces, and replies to it. `part` is the part that came with the head.
 fn answer_posted<R: Wait, A: Allocator, I: Read, O: Write, W: Witness<A>, S: Saver>(
     rt: &R,
     alloc: A,
@@ -76,10 +76,11 @@ fn answer_posted<R: Wait, A: Allocator, I: Read, O: Write, W: Witness<A>, S: Sav
     }
 }
 
-/// Answers one request to a witness (C2SP tlog-witness), and gives the status, or none where no byte came: 400 or 431
-/// without a head, 404 for another target than `/add-checkpoint`, 405 for another method than POST, 400 without one
-/// `Content-Length` (RFC 9112, section 6), 413 above 1,048,576 bytes, 500 where memory for the body was refused, 400
-/// where the input ends before it, else what the witness replies. After that reply nothing grows.
+/// Answers one request to a witness (C2SP tlog-witness), and returns the status, or `None` if no byte came: 400 or
+/// 431 if there is no head, 404 if the target isn't `/add-checkpoint`, 405 if the method isn't POST, 400 without one
+/// `Content-Length` (RFC 9112, section 6), 413 above 1,048,576 bytes, 500 if an allocation for the body fails, 400 if
+/// the input ends before the body does, else the status of the witness's reply. Nothing is allocated after that
+/// reply.
 pub fn serve_witness<R: Wait, A: Allocator, I: Read, O: Write, W: Witness<A>, S: Saver>(
     rt: &R,
     alloc: A,

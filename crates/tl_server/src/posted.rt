@@ -1,4 +1,4 @@
-//! What the head of a request says of the body that it hands in.
+//! What the head of a request says of its body.
 
 ghost use Rattle.std.specs.Prelude.{◌≡◌, ◌-◌, ◌<◌, ◌^◌, map, take};
 ghost use Rattle.httparse.specs.Spans.{IsRequestWithin, header_bytes, span_bytes};
@@ -13,15 +13,15 @@ use httparse::spans::{HeaderSpan, RequestSpans};
 pub(crate) enum Posted {
     /// Another method than POST.
     OtherMethod,
-    /// The length of the body isn't said.
+    /// The fields don't give the length of the body.
     Unsized,
     /// The body is too large.
     TooLarge,
-    /// It has so many bytes.
+    /// The body has this many bytes.
     Sized(u64),
 }
 
-/// What the head at the front of these bytes says, whose parts are there, of a body of at most so many bytes.
+/// Returns what the head at the front of these bytes says of a body of at most `most` bytes.
 pub(crate) fn posted_of(
     bytes: &[u8],
     headers: &[HeaderSpan],

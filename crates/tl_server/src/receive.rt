@@ -1,4 +1,4 @@
-//! Receiving the body that a request hands in.
+//! Receiving the body of a request.
 
 ghost use Rattle.std.specs.Prelude.{◌≡◌};
 ghost use Rattle.tl_device.specs.Device.{passage};
@@ -10,18 +10,18 @@ use std::alloc::Allocator;
 use std::io::Read;
 use tl_device::Counted;
 
-/// What came of receiving a body.
+/// The result of receiving a body.
 #[derive(Drop)]
 pub(crate) enum Received<A: Allocator> {
     /// A read failed.
     Failed,
-    /// There is none, and this status says why.
+    /// There is no body; the status to answer with.
     Refused(u16),
     /// The whole body.
     Whole(Vec<u8, A>),
 }
 
-/// Receives the body of which a head says so much. Some of what follows was read with the head.
+/// Receives the body that a head announces. `part` is the part that came with the head.
 pub(crate) fn receive<A: Allocator, I: Read>(
     alloc: A,
     reader: &mut Counted<I>,

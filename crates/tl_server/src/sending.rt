@@ -1,4 +1,4 @@
-//! An answer, written with as few calls as can be and without memory.
+//! Writing answers, with few calls and without allocation.
 
 ghost use Rattle.std.specs.Prelude.{◌≡◌, ◌<◌, ◌≤◌, ◌++◌, ◌∷◌, [], List, ℕ, OnOk, OnErr, IfOk, length};
 ghost use Rattle.tl_device.specs.Device.{passage, WroteWhole, WrotePart};
@@ -12,7 +12,7 @@ use itoa::Buffer;
 use std::io::Write;
 use tl_device::{Counted, WriteFault, write_pieces};
 
-// The reason phrase of a status.
+// Returns the reason phrase of a status.
 fn phrase_of(status: u16) -> &'static str
     ensures { result.now ≡ phrase status }
 {
@@ -31,7 +31,7 @@ fn phrase_of(status: u16) -> &'static str
     }
 }
 
-// The text, or none where the list is empty.
+// Returns the text, or nothing if the list is empty.
 fn beside<'a>(list: &[u8], text: &'a [u8]) -> &'a [u8]
     ensures { result.now ≡ beside list.now text.now }
 {
@@ -41,7 +41,7 @@ fn beside<'a>(list: &[u8], text: &'a [u8]) -> &'a [u8]
     }
 }
 
-// The field that tells when to ask again, which a 503 has.
+// Returns the field Retry-After of a 503, or nothing for another status.
 fn retry_of(status: u16) -> &'static [u8]
     ensures { result.now ≡ retry_line status }
 {
@@ -52,7 +52,7 @@ fn retry_of(status: u16) -> &'static [u8]
     }
 }
 
-// The texts of an answer, one after another.
+// Writes the parts of an answer one after another.
 fn put_texts<'a, W: Write>(
     writer: &mut Counted<W>,
     status: &'a [u8],
@@ -87,7 +87,7 @@ fn put_texts<'a, W: Write>(
     write_pieces(writer, &pieces)
 }
 
-/// Writes an answer. It takes no memory.
+/// Writes an answer. It allocates nothing.
 pub(crate) fn send<W: Write>(
     writer: &mut Counted<W>,
     status: u16,
@@ -128,7 +128,7 @@ pub(crate) fn refuse<W: Write>(
     send(writer, status, b"", b"", b"")
 }
 
-/// Writes the answer where an entry isn't published: nothing is taken now, or it took too long.
+/// Writes the answer to an entry that isn't published: the log takes nothing now, or it took too long.
 pub(crate) fn refuse_busy<W: Write>(writer: &mut Counted<W>) -> Result<Option<u16>, ServeFault>
     ensures { Sends busy (passage W.contents writer.old writer.new) result }
 {
@@ -136,7 +136,7 @@ pub(crate) fn refuse_busy<W: Write>(writer: &mut Counted<W>) -> Result<Option<u1
     send(writer, 503, b"", b"text/plain; charset=utf-8", text)
 }
 
-/// Writes the answer to a method that isn't the one allowed.
+/// Writes the answer to a method other than the one allowed.
 pub(crate) fn refuse_method<W: Write>(
     writer: &mut Counted<W>,
     allowed: &[u8],

@@ -19,7 +19,7 @@ use tl_archive::{Shelf, ShelfFault};
 use tl_device::Counted;
 use tl_tile::Resource;
 
-// Answers with what a read of the shelf gave.
+// Answers with what the shelf has under a resource.
 fn answer_read<A: Allocator, O: Write>(
     writer: &mut Counted<O>,
     resource: &Resource,
@@ -35,7 +35,7 @@ fn answer_read<A: Allocator, O: Write>(
     }
 }
 
-/// Answers a request by its method and its target.
+/// Answers a request with this method and target.
 pub(crate) fn answer_shelf<A: Allocator, S: Shelf, O: Write>(
     alloc: A,
     writer: &mut Counted<O>,
@@ -57,8 +57,8 @@ pub(crate) fn answer_shelf<A: Allocator, S: Shelf, O: Write>(
     answer_read(writer, &resource, read)
 }
 
-/// Answers one request to a log with what is on a shelf (C2SP tlog-tiles), and gives the status, or none where no byte
-/// came: as `serve_log`, but 404 where the shelf has no such resource, and 500 where reading it failed.
+/// Answers one request to a log on a shelf (C2SP tlog-tiles), and returns the status, or `None` if no byte came: as
+/// `serve_log`, except that it is 404 if the shelf has no such resource and 500 if reading it fails.
 pub fn serve_shelf<A: Allocator, S: Shelf, I: Read, O: Write>(
     alloc: A,
     reader: &mut Counted<I>,

@@ -1,4 +1,4 @@
-//! Who decides on the requests to a witness.
+//! What decides on the requests to a witness.
 
 ghost use Rattle.tl_witness.specs.Shared.{AnswersShared};
 
@@ -7,16 +7,16 @@ use std::sync::Wait;
 use tl_hash::TreeHash;
 use tl_witness::{Reply, Saver, SharedWitness, Shown};
 
-/// Who decides on add-checkpoint requests, as a witness that threads share. A function over this bound has a contract
-/// that says all it rests on, where one over the witness itself would rest on the keys inside it.
+/// Decides on add-checkpoint requests, as a witness that threads share does. A function over this bound has a
+/// contract that states all that it rests on; over the witness itself it would rest on the keys inside it too.
 pub trait Witness<A: Allocator>: Shown {
     ghost use Rattle.tl_hash.specs.Bytes.{Digest};
 
-    /// What contracts see of its digest function.
+    /// The digest function, as contracts see it.
     ghost digest: { Digest };
 
-    /// The reply to the body of a request at this time, in seconds since the Unix epoch (C2SP tlog-witness,
-    /// "add-checkpoint"). It may wait.
+    /// Returns the reply to the body of a request at this time, in seconds since the Unix epoch (C2SP tlog-witness,
+    /// "add-checkpoint"). It may wait for other threads.
     fn reply<R: Wait, S: Saver>(&self, rt: &R, body: &[u8], time: u64, saver: &mut S) -> Reply<A>
         ensures { AnswersShared digest (Self.shown self.now) body.now time
             (record {

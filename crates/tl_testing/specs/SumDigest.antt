@@ -1,4 +1,4 @@
--- A digest with collisions at hand: the sum of all bytes modulo 256, and 31 zero bytes.
+-- A digest for which collisions are easily found: the sum of all bytes modulo 256, and 31 zero bytes.
 use Rattle.std.proofs.Common.{◌≡◌, ◌%◌, ◌∷◌, length, refl}
 use Rattle.std.specs.Prelude.{sum, replicate}
 use Rattle.tl_hash.specs.Bytes.{Bytes}

@@ -1,12 +1,12 @@
-//! A key for tests that tells how often it was asked, and for what.
+//! A key for tests whose signatures show how often it was asked, and for what.
 
 use std::alloc::{AllocError, Global};
 use std::sync::atomic::{AtomicU64, Ordering};
 use tl_hash::{Sha256Tree, leaf_hash};
 use tl_note::{SignFault, Signer};
 
-/// A key whose signature of a message is how often it was asked by then, this time among them, as 8 bytes, big-endian,
-/// with the message's leaf hash behind them.
+/// A key whose signature of a message is how often it has been asked by then, this time included, as 8 bytes,
+/// big-endian, followed by the message's leaf hash.
 #[derive(Drop)]
 pub struct CountingKey {
     name: String,
@@ -15,7 +15,7 @@ pub struct CountingKey {
 }
 
 impl CountingKey {
-    /// The key of this name and identifier, which was not asked yet.
+    /// Creates the key of this name and identifier, which hasn't been asked yet.
     pub fn new(alloc: Global, name: &str, id: u32) -> Result<CountingKey, AllocError> {
         let name = String::from_str(alloc, name)?;
         let asked = AtomicU64::new(0);
@@ -23,7 +23,7 @@ impl CountingKey {
     }
 }
 
-// Bytes, with the hash of a message behind them.
+// Returns bytes followed by the hash of a message.
 fn with_hash(alloc: Global, bytes: &[u8], message: &[u8]) -> Result<Vec<u8>, AllocError> {
     let mut all = Vec::from_slice(alloc, bytes)?;
     all.extend_from_slice(leaf_hash(Sha256Tree, message).as_bytes())?;

@@ -1,4 +1,4 @@
-//! A saver for tests that keeps what it saved, and is told whether to fail.
+//! A saver for tests that keeps what it saved, and fails when it is made to.
 
 ghost use Rattle.std.specs.Prelude.{◌≡◌, ◌<◌, ◌-◌, ◌^◌, ◌⊎◌, IfOk, IsErr, string_bytes};
 ghost use Rattle.tl_proof.specs.Acceptance.{step_of};
@@ -7,13 +7,13 @@ use std::alloc::{AllocError, Allocator, Global};
 use tl_proof::Link;
 use tl_witness::{SaveFault, Saver, write_chain_line};
 
-/// A saver that keeps each link and its line, and fails if it is told to or memory is refused.
+/// A saver that keeps each link and its line, and fails if `fails` is set or allocation fails.
 #[derive(Drop)]
 pub struct KeepingSaver {
     alloc: Global,
-    /// Whether it fails.
+    /// Whether each save fails.
     pub fails: bool,
-    /// Whether it failed because memory was refused.
+    /// Whether the last save that failed did so because an allocation failed.
     pub lacks_memory: bool,
     /// The lines of the links that were saved.
     pub lines: String,
@@ -22,7 +22,7 @@ pub struct KeepingSaver {
 }
 
 impl KeepingSaver {
-    /// A saver that was not called yet.
+    /// Creates a saver that hasn't saved anything yet.
     pub fn new(alloc: Global) -> KeepingSaver {
         KeepingSaver {
             alloc,
@@ -34,7 +34,7 @@ impl KeepingSaver {
         }
     }
 
-    // One failure more.
+    // Counts a failure, and returns it.
     fn fail(&mut self) -> Result<(), SaveFault>
         ensures failed { IsErr result }
         ensures counted { (self.old.failures < self.new.failures) ⊎ (self.old.failures ≡ 2 ^ 64 - 1) }
@@ -46,7 +46,7 @@ impl KeepingSaver {
     }
 }
 
-// A copy of an origin and a link.
+// Copies an origin and a link.
 fn copied<A: Allocator>(
     alloc: Global,
     origin: &str,

@@ -1,4 +1,4 @@
-//! A key for tests, as signer and verifier.
+//! A signer and verifier for tests.
 
 use std::alloc::{AllocError, Global};
 use tl_note::{SignFault, Signer, Verifier};
@@ -11,7 +11,7 @@ pub struct LengthKey {
 }
 
 impl LengthKey {
-    /// The key of this name and identifier.
+    /// Creates the key of this name and identifier.
     pub fn new(alloc: Global, name: &str, id: u32) -> Result<LengthKey, AllocError> {
         let name = String::from_str(alloc, name)?;
         Ok(LengthKey { name, id })

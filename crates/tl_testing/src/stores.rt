@@ -1,4 +1,4 @@
-//! Stores of few entries, and the bytes of tiles by them.
+//! Stores of few entries, and the bytes of their tiles.
 
 use std::alloc::{AllocError, Allocator, Global};
 use tl_hash::TreeHash;
@@ -8,7 +8,7 @@ use tl_tile::{Tile, tile_bytes};
 // More entries than any test has.
 const MOST: usize = 100_000;
 
-/// The store of these entries, of which there are fewer than 100,000; of more it is empty.
+/// Returns the store of these entries if they are fewer than 100,000, else an empty one.
 pub fn store_of<T: TreeHash>(
     alloc: Global,
     h: T,
@@ -21,8 +21,8 @@ pub fn store_of<T: TreeHash>(
     Ok(store)
 }
 
-/// The bytes of a tile of the three lowest levels by a reader of hashes, where the tile's index is below 1,000 and its
-/// width from 1 to 256; `OutOfRange` of any other tile.
+/// Returns the bytes of a tile of the three lowest levels, from a reader of hashes, if the tile's index is below
+/// 1,000 and its width from 1 to 256. `OutOfRange` for any other tile.
 pub fn stored_bytes<R: HashReader, A: Allocator + Copy>(
     alloc: A,
     tile: Tile,

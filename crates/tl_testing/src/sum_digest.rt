@@ -1,4 +1,4 @@
-//! A weak digest, with which collisions are at hand.
+//! A weak digest, for which collisions are easily found.
 
 ghost use Rattle.std.specs.Prelude.{◌≡◌, ◌+◌, ◌%◌, sum};
 ghost use Rattle.tl_testing.specs.SumDigest.{sum_digest, length-sum_digest};
@@ -9,7 +9,7 @@ use tl_hash::{Hash, TreeHash};
 #[derive(Clone, Copy, Debug)]
 pub struct SumDigest;
 
-// The sum modulo 256 with these bytes added.
+// Returns the sum modulo 256 with these bytes added.
 fn add_bytes(start: u8, bytes: &[u8]) -> u8
     ensures { result ≡ (start + sum bytes.now) % 256 }
 {

@@ -1,4 +1,4 @@
-//! The eight entries of Google's Certificate Transparency test data, and entries by number.
+//! The eight entries of Google's Certificate Transparency test data, and numbered entries.
 
 use std::alloc::{AllocError, Global};
 
@@ -14,7 +14,7 @@ const ENTRIES: [&[u8]; 8] = [
     b"\x60\x61\x62\x63\x64\x65\x66\x67\x68\x69\x6a\x6b\x6c\x6d\x6e\x6f",
 ];
 
-/// The first entries of the list, so many of them.
+/// Returns the first `count` entries of the list.
 pub fn entries(alloc: Global, count: usize) -> Result<Vec<Vec<u8>>, AllocError> {
     let mut list = Vec::new(alloc);
     for entry in ENTRIES.iter().take(count) {
@@ -23,7 +23,7 @@ pub fn entries(alloc: Global, count: usize) -> Result<Vec<Vec<u8>>, AllocError> 
     Ok(list)
 }
 
-/// So many entries of four bytes: the numbers from 0 up, big-endian.
+/// Returns `count` entries of four bytes: the numbers from 0 up, big-endian.
 pub fn numbered(alloc: Global, count: u32) -> Result<Vec<Vec<u8>>, AllocError> {
     let mut list = Vec::new(alloc);
     for number in 0..count {

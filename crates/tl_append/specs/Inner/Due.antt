@@ -1,4 +1,4 @@
--- A publication that is due: its entries were put and its note signed, and that isn't on the shelf yet.
+-- A publication that is due: its entries were put and its note signed, and the note isn't on the shelf yet.
 use Rattle.std.specs.Prelude.{◌≡◌, Bool, ℕ, ⊤, false, List, [], ◌∷◌, ◌++◌, Option, Some, None, string_bytes}
 use Rattle.std.specs.List.{All, flat_map}
 use Rattle.sha2.specs.Sha256.{sha256}
@@ -25,7 +25,7 @@ abbrev pub due_of : LogKey → List Bytes → Option Due → List Prefix
 due_of key log None = []
 due_of key log (Some due) = published log (checkpoint_note key log) ∷ []
 
--- whatever the ledger kept before, it keeps with the publication that was due, and these entries behind the log;
+-- whatever the ledger kept before, it keeps with the publication that was due, and with these entries behind the log;
 -- whatever a crash leaves at any moment in between is complete for one of the publications
 pub record PublishesDue (key : LogKey) (due : Option Due) (put : List Bytes) (c : Course) : Type 0 where
   pub kept : (history : List Prefix) (log : List Bytes) → IsKeeping sha256 history log c.before c.was
@@ -38,18 +38,18 @@ abbrev pub PrintsDue : LogKey → Option Due → Course → Passage → Type 0
 PrintsDue key due c o = (history : List Prefix) (log : List Bytes) → IsKeeping sha256 history log c.before c.was
     → WroteWhole o (flat_map publication_line (due_of key log due))
 
--- the mark is of so many entries, where a publication was due
+-- if a publication was due, its size is marked
 abbrev pub MarksDue : Option Due → ℕ → Option ℕ → Type 0
 MarksDue None size mark = ⊤
 MarksDue (Some due) size mark = mark ≡ Some size
 
--- nothing is there that is spent since the publication before the one that was due
+-- if a publication was due, nothing is there that is spent since the publication before it
 abbrev pub LacksDue : Option Due → ℕ → Held → Type 0
 LacksDue None size held = ⊤
 LacksDue (Some due) size held = LacksSpent due.from size held
 
--- the publication that was due was there, its checkpoint still is and its size is marked, and what it spent is gone,
--- unless that is kept
+-- the publication that was due was there, its checkpoint still is and its size is marked, and what it spent is gone
+-- unless it is kept
 pub record ShowsDue (key : LogKey) (keeps : Bool) (due : Option Due) (mark : Option ℕ) (c : Course) : Type 0 where
   pub seen : (history : List Prefix) (log : List Bytes) → IsKeeping sha256 history log c.before c.was
       → All (WasThere c.sees) (due_of key log due)

@@ -1,4 +1,4 @@
--- A run of `append` once its key is known.
+-- The command `append` once its key is known.
 use Rattle.std.specs.Prelude.{◌⊎◌, ℕ, Result, Ok, Err}
 use Rattle.tl_device.specs.Device.{Passage}
 use Rattle.tl_ledger.specs.Opening.{Found}

@@ -13,10 +13,10 @@ use Rattle.tl_bucket.specs.declared.staged.Staged.{Staged}
 abbrev pub item_of : Staged → Item
 item_of s = (s.resource, vec_items s.bytes)
 
--- it was there as the object of its resource
+-- the resource was there as its object
 abbrev pub IsThere : Place → Staged → Type 0
 IsThere p s = WasThere p (content_at (item_of s)) Always
 
--- a checkpoint that is there, by its bytes
+-- a checkpoint that is there, as a value
 abbrev pub shown_of : Shown → seen.Shown
 shown_of s = record { note = vec_items s.note; etag = string_bytes s.etag }

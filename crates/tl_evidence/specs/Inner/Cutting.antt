@@ -20,6 +20,6 @@ abbrev pub signed_length : List Bytes → ℕ
 signed_length [] = 0
 signed_length (line ∷ lines) = suc (signature_length lines)
 
--- how many lines the note has that stands at the front: its text, an empty line, and signatures
+-- how many lines the note at the front has: its text, an empty line, and signatures
 abbrev pub note_length : List Bytes → ℕ
 note_length lines = text_length lines + signed_length (drop (text_length lines) lines)

@@ -6,7 +6,7 @@ use Rattle.tl_checkpoint.specs.Checkpoint.{Head, head_of}
 use Rattle.tl_checkpoint.specs.OpenCheckpoint.{IsSignedCheckpoint}
 use Rattle.tl_checkpoint.specs.declared.checkpoint.Checkpoint.{Checkpoint}
 
--- the checkpoint that bytes are, if they are one that opens under these keys
+-- the checkpoint in the bytes, if they are one that opens under these keys
 abbrev pub OpensOrNot : {A E : Type 0} → Bytes → List Key → Result (Option (Checkpoint A)) E → Type 0
 OpensOrNot bytes keys (Ok (Some c)) = IsSignedCheckpoint bytes keys (head_of c)
 OpensOrNot bytes keys (Ok None) = (c : Head) → IsSignedCheckpoint bytes keys c → ⊥

@@ -1,4 +1,4 @@
--- What witnesses gave of a round.
+-- The lines that witnesses gave in a round, and the events of a ballot.
 use Rattle.std.specs.Prelude.{◌≡◌, ◌⊎◌, ◌≢◌, ◌≤◌, ◌<◌, ◌+◌, ◌%◌, ◌^◌, ℕ, List, [], ◌∷◌, All, Option, Some, None, String, length, option_map, slice_get, string_bytes}
 use Rattle.std.specs.Global.{Global}
 use Rattle.std.specs.List.{filter_map, flat_map}
@@ -9,7 +9,7 @@ use Rattle.tl_feed.specs.declared.tally.BallotEvent.{BallotEvent}
 use Rattle.tl_feed.specs.declared.tally.BallotEvent.TheVariants.{Enough, Ended, Unasked}
 use Rattle.tl_feed.specs.declared.unasked.Unasked.{Unasked as Why}
 
--- the lines of those witnesses that gave one, one of each, in the order of the witnesses
+-- the lines of the witnesses that gave one, in the order of the witnesses
 abbrev pub given : List (Option (String Global)) → List Bytes
 given lines = filter_map (λ line. option_map string_bytes line) lines
 
@@ -17,20 +17,20 @@ given lines = filter_map (λ line. option_map string_bytes line) lines
 abbrev pub joined : List (Option (String Global)) → Bytes
 joined lines = flat_map (λ line. line) (given lines)
 
--- the round that is open has this number
+-- the open round has this number
 abbrev pub IsOpen : Tally → ℕ → Type 0
 IsOpen tally number = option_map (λ round. round.number) tally.round ≡ Some number
 
--- the number of the round after the one with this number, 0 before the first: one more, in 64 bits
+-- the number of the round after the one with this number (0: no round yet), one more in 64 bits
 abbrev pub number_after : ℕ → ℕ
 number_after opened = (opened + 1) % 2 ^ 64
 
--- the line of the witness at this place counts in the round with this number: it is the one that is open, and the
--- witness gave none of it
+-- a line of the witness at this place counts in the round with this number: the round is open, and the witness gave
+-- no line in it
 abbrev pub Counts : Tally → ℕ → ℕ → Type 0
 Counts tally place number = IsOpen tally number × (slice_get tally.lines.items place ≡ Some None)
 
--- this is what the witness at this place gave, and all else is as it was
+-- the line of the witness at this place is recorded, and nothing else changes
 pub record Adds (place : ℕ) (line : String Global) (old new : Tally) : Type 0 where
   pub own : slice_get new.lines.items place ≡ Some (Some line)
   pub others : (other : ℕ) → other ≢ place → slice_get new.lines.items other ≡ slice_get old.lines.items other
@@ -40,18 +40,18 @@ pub record Adds (place : ℕ) (line : String Global) (old new : Tally) : Type 0 
   pub unasked : new.unasked ≡ old.unasked
   pub ended : new.has_ended ≡ old.has_ended
 
--- a line that a witness gives of a round
+-- a line is recorded if it counts; else nothing changes
 abbrev pub Puts : ℕ → ℕ → String Global → Tally → Tally → Type 0
 Puts place number line old new =
     (Counts old place number × Adds place line old new) ⊎ ((Counts old place number → ⊥) × (new ≡ old))
 
--- the round that this witness is to be asked about: the one that is open, if it isn't older than `after`, and the
--- witness gave no line of it
+-- the round that this witness is to be asked about: it is open, its number isn't below `after`, and the witness gave
+-- no line in it
 abbrev pub IsFor : Tally → ℕ → ℕ → Round → Type 0
 IsFor tally place after round =
     (tally.round ≡ Some round) × (after ≤ round.number) × (slice_get tally.lines.items place ≡ Some None)
 
--- the round that was open is closed, and what witnesses gave of it is forgotten
+-- the open round is closed, and its lines are forgotten
 pub record Closes (old new : Tally) : Type 0 where
   pub round : new.round ≡ None
   pub none : All (λ line. line ≡ None) new.lines.items
@@ -60,7 +60,7 @@ pub record Closes (old new : Tally) : Type 0 where
   pub opened : new.opened ≡ old.opened
   pub ended : new.has_ended ≡ old.has_ended
 
--- the first of what wasn't handed out is told, and all else is as it was
+-- the first fault that wasn't reported is reported, and nothing else changes
 pub record HandsOut (place : ℕ) (why : Why) (old new : Tally) : Type 0 where
   pub first : old.unasked.items ≡ record { place = place; why = why } ∷ new.unasked.items
   pub lines : new.lines ≡ old.lines
@@ -68,8 +68,8 @@ pub record HandsOut (place : ℕ) (why : Why) (old new : Tally) : Type 0 where
   pub opened : new.opened ≡ old.opened
   pub ended : new.has_ended ≡ old.has_ended
 
--- what is told, the first that applies: the first of what wasn't handed out; all lines, once they are so many, and the
--- round is closed; or that the ballot has ended
+-- the next event, the first that applies: the first fault that wasn't reported; all lines once there are `need`, with
+-- which the round is closed; or that the ballot has ended
 abbrev pub Tells : ℕ → Tally → Tally → BallotEvent → Type 0
 Tells need old new (Unasked place why) = HandsOut place why old new
 Tells need old new (Enough text) =

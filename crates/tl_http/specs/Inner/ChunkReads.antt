@@ -11,13 +11,13 @@ use Rattle.tl_http.specs.declared.chunks.Line.TheVariants.{Whole, Cut, Lacking}
 use Rattle.tl_http.specs.declared.fault.HttpFault.{HttpFault}
 use Rattle.tl_http.specs.declared.fault.HttpFault.TheVariants.{BadChunk, Short}
 
--- whether bytes begin with the line of a chunk
+-- the line of a chunk at the front of the bytes, or why there is none
 abbrev pub FindsLine : Bytes → Line → Type 0
 FindsLine bytes (Whole len n) = (len ≤ length bytes) × IsLine (take len bytes) n
 FindsLine bytes Cut = IsCutLine bytes
 FindsLine bytes Lacking = LacksLine bytes
 
--- what decides of what was kept and of what follows it
+-- what was kept, with what follows it, has this fault
 abbrev pub Meets : (Bytes → Outcome → Type 0) → Passage → Bytes → HttpFault → Type 0
 Meets Decides i old fault = Receives (λ rest r. Decides (old ++ rest) r) i (Err fault)
 
@@ -26,7 +26,7 @@ abbrev pub ReadsLine : Passage → Bytes → Bytes → Result ℕ HttpFault → 
 ReadsLine i old new (Ok n) = (line : Bytes) × IsLine line n × Took i old new line
 ReadsLine i old new (Err fault) = Meets LineDecides i old fault
 
--- why a byte isn't there: the input ends, or it is another one
+-- why the wanted byte isn't next: the input ends, or another byte comes
 abbrev pub ByteDecides : ℕ → Bytes → Outcome → Type 0
 ByteDecides wanted rest r =
     ((r ≡ Err Short) × (rest ≡ []))
@@ -43,13 +43,13 @@ ReadsData n i old new body grown (Ok u) =
     (content : Bytes) × (length content ≡ n) × Took i old new content × (grown ≡ body ++ content)
 ReadsData n i old new body grown (Err fault) = Meets (DataDecides n) i old fault
 
--- the same with the CR LF after them
+-- reading n bytes of data and the CR LF after them onto a body
 abbrev pub ReadsChunk : {U : Type 0} → ℕ → Passage → Bytes → Bytes → Bytes → Bytes → Result U HttpFault → Type 0
 ReadsChunk n i old new body grown (Ok u) =
     (content : Bytes) × (length content ≡ n) × Took i old new (content ++ codes "\r\n") × (grown ≡ body ++ content)
 ReadsChunk n i old new body grown (Err fault) = Meets (DataDecides n) i old fault
 
--- some chunks came, and nothing else but what is kept
+-- some chunks came, and nothing else except what is kept
 pub record CameChunks (i : Passage) (begun kept body : Bytes) (limit : ℕ) : Type 0 where
   pub chunks : List Chunk
   pub chunked : All IsChunk chunks
@@ -57,7 +57,7 @@ pub record CameChunks (i : Passage) (begun kept body : Bytes) (limit : ℕ) : Ty
   pub whole : chunks_content chunks ≡ body
   pub fits : length body ≤ limit
 
--- some data came, which stand behind the body now, and so many bytes of n are left
+-- some data came and were appended to the body, and `left` of n bytes are still to come
 pub record CameData (i : Passage) (old kept body grown : Bytes) (n left : ℕ) : Type 0 where
   pub content : Bytes
   pub took : Took i old kept content

@@ -6,7 +6,7 @@ use Rattle.tl_http.specs.declared.fault.HttpFault.{HttpFault}
 use Rattle.tl_http.specs.declared.fault.HttpFault.TheVariants.{BadLength, Encoded}
 use Rattle.tl_http.specs.declared.framing.Framing.{Framing}
 
--- what the values of Content-Length announce, or that they announce no length
+-- what the values of Content-Length announce, or that they announce nothing
 abbrev pub SaysLength : List Bytes → Result (Option ℕ) HttpFault → Type 0
 SaysLength values (Ok n) = AnnouncesLength values n
 SaysLength values (Err fault) = (fault ≡ BadLength) × ((n : Option ℕ) → ¬ (AnnouncesLength values n))

@@ -19,13 +19,13 @@ use Rattle.tl_http.specs.declared.head.HeadRead.{HeadRead}
 use Rattle.tl_http.specs.declared.taken.Taken.{Taken}
 use Rattle.tl_http.specs.declared.head.HeadRead.TheVariants.{Failed, Missing, Head}
 
--- what the parser says of bytes, with room for 64 fields
+-- what the parser reports of bytes, with room for 64 fields
 abbrev pub Parses : Bytes → List HeaderSpan → Parsed → Type 0
 Parses bytes headers (Whole spans) = IsResponseWithin bytes headers spans × IsResponseOf bytes headers spans
 Parses bytes headers Partial = HasNoResponse bytes
 Parses bytes headers Refused = ResponseOverflows 64 bytes
 
--- an outcome that is a fault
+-- a fault as the result of a call
 abbrev pub faulty : HttpFault → Outcome
 faulty fault = Err fault
 
@@ -33,13 +33,13 @@ faulty fault = Err fault
 abbrev pub HasNoHead : Bytes → Type 0
 HasNoHead input = (b : Begun) → ¬ (Begins input b)
 
--- the first bytes of the buffer are interim heads, up to a place
+-- the first bytes of the buffer are interim heads, up to `start`
 pub record Passed (buf : Bytes) (start len : ℕ) : Type 0 where
   pub heads : List ResponseHead
   pub interim : All IsInterim heads
   pub joined : take len buf ≡ flat_map print_response heads ++ slice_range buf start len
 
--- what was read is the first bytes of the buffer, which hold a head after interim ones
+-- the bytes read are the first bytes of the buffer, which hold a head after interim ones
 pub record IsHeaded (i : Passage) (buf : Bytes) (headers : List HeaderSpan) (start len : ℕ) (spans : ResponseSpans) : Type 0 where
   pub ordered : start ≤ len
   pub fits : len ≤ 8192
@@ -56,25 +56,25 @@ ReadsHead i buf headers Failed = HasFailed i
 ReadsHead i buf headers Missing = Came HasNoHead i
 ReadsHead i buf headers (Head start len spans) = IsHeaded i buf headers start len spans
 
--- what a head announces that is taken
+-- the head says of its body what is needed to read it: it has a wanted status, no coding and this framing
 pub record IsTaken (Wanted : ℕ → Type 0) (minor status : ℕ) (fields : List (Bytes × Bytes)) (framing : Framing) : Type 0 where
   pub version : minor ≤ 1
   pub wanted : Wanted status
   pub plain : IsPlain minor fields
   pub framed : HasFraming fields framing
 
--- a head is taken with its framing, or decides alone
+-- a head whose body can be read, with its framing, or the fault that the head alone decides
 abbrev pub Announces : (ℕ → Type 0) → ℕ → ℕ → List (Bytes × Bytes) → Result Framing HttpFault → Type 0
 Announces Wanted minor status fields (Ok framing) = IsTaken Wanted minor status fields framing
 Announces Wanted minor status fields (Err fault) = HeadDecides Wanted minor status fields (λ _. ⊥) (faulty fault)
 
--- a head in the buffer that is taken
+-- a head in the buffer whose body can be read
 pub record TookHead (Wanted : ℕ → Type 0) (i : Passage) (buf : Bytes) (headers : List HeaderSpan) (taken : Taken) : Type 0 where
   pub headed : IsHeaded i buf headers taken.start taken.len taken.spans
   pub is : IsTaken Wanted taken.spans.version taken.spans.code
       (map (header_bytes (slice_range buf taken.start taken.len)) (take taken.spans.headers headers)) taken.framing
 
--- reading a head that is taken, or one that decides alone
+-- reading a head whose body can be read, or the fault that the head alone decides
 abbrev pub ReadsTaken : (ℕ → Type 0) → Passage → Bytes → List HeaderSpan → Result Taken HttpFault → Type 0
 ReadsTaken Wanted i buf headers (Ok taken) = TookHead Wanted i buf headers taken
 ReadsTaken Wanted i buf headers (Err fault) = Receives (ResponseDecides Wanted (λ _ _. ⊥)) i (faulty fault)

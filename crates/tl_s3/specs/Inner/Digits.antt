@@ -1,4 +1,4 @@
--- The digits of a date, from its text in a field of HTTP, as `Fri, 24 May 2013 00:00:00 GMT`.
+-- The digits of a date, from its text in an HTTP field such as `Fri, 24 May 2013 00:00:00 GMT`.
 use Rattle.std.specs.Prelude.{ℕ, ◌+◌, [], ◌∷◌, ◌++◌, codes, slice_index, bytes_eq, if◌then◌else◌}
 use Rattle.tl_hash.specs.Bytes.{Bytes}
 
@@ -17,11 +17,11 @@ month_digits name =
     (if bytes_eq name (codes "Oct") then codes "10" else
     (if bytes_eq name (codes "Nov") then codes "11" else codes "12"))))))))))
 
--- two bytes from this place on
+-- the two bytes from this index on
 abbrev pub two_at : Bytes → ℕ → Bytes
 two_at text place = slice_index text place ∷ slice_index text (place + 1) ∷ []
 
--- the month's name
+-- the first three letters of the month's name
 abbrev pub name_in : Bytes → Bytes
 name_in text = slice_index text 8 ∷ slice_index text 9 ∷ slice_index text 10 ∷ []
 

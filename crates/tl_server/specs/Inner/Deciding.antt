@@ -17,7 +17,7 @@ use Rattle.tl_server.specs.declared.head.Parsed.TheVariants.{Whole, Partial, Ref
 use Rattle.tl_server.specs.declared.head.HeadRead.{HeadRead}
 use Rattle.tl_server.specs.declared.head.HeadRead.TheVariants.{Failed, Nothing, NoHead, Head}
 
--- what the parser says of bytes, with room for 64 fields
+-- what the parser reports of bytes, with room for 64 fields
 abbrev pub Parses : Bytes → List HeaderSpan → Parsed → Type 0
 Parses bytes headers (Whole spans) = IsRequestWithin bytes headers spans × IsRequestOf bytes headers spans
 Parses bytes headers Partial = HasNoRequest bytes × MayBecomeRequest bytes
@@ -29,7 +29,7 @@ pub record Answered (Answers : Answer → Type 0) (o : Passage) (result : Result
   pub decided : Answers answer
   pub sends : Sends answer o result
 
--- an answer to what follows a head, or a course: there is one
+-- an answer, or a course, for what follows a head: there always is one
 abbrev pub Rest : {X : Type 0} → (Bytes → X → Type 0) → Bytes → Option X → Type 0
 Rest Answers rest None = ⊥
 Rest Answers rest (Some a) = Answers rest a
@@ -44,14 +44,14 @@ pub record IsWithoutHead (input : Bytes) (status : ℕ) : Type 0 where
   pub none : HasNoHead input
   pub status_is : IsHeadless input status
 
--- what was read is the beginning of no input with a head
+-- the bytes read begin no input that has a head; its status
 pub record ReadNoHead (i : Passage) (status : ℕ) : Type 0 where
   pub bytes : Bytes
   pub ended : Bool
   pub gave : Gave i bytes ended
   pub so : (input : Bytes) → MayBe bytes ended input → IsWithoutHead input status
 
--- what was read is the first bytes of the buffer, and begins with a head
+-- the bytes read are the first bytes of the buffer, which begins with a head
 pub record IsHeaded (i : Passage) (buf : Bytes) (headers : List HeaderSpan) (len : ℕ) (spans : RequestSpans) : Type 0 where
   pub fits : len ≤ 8192
   pub room : length headers ≡ 64

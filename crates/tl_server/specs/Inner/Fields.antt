@@ -5,7 +5,7 @@ use Rattle.tl_server.specs.Head.{IsSized}
 use Rattle.tl_server.specs.declared.fields.Length.{Length}
 use Rattle.tl_server.specs.declared.fields.Length.TheVariants as lengths
 
--- what fields say of the length of a body of at most so many bytes
+-- the length that the fields give to a body of at most `most` bytes
 abbrev pub SizesBody : ℕ → List (Bytes × Bytes) → Length → Type 0
 SizesBody most fields lengths.Unknown = (n : ℕ) → ¬ (IsSized fields n)
 SizesBody most fields lengths.TooLarge = (n : ℕ) × IsSized fields n × ¬ (n ≤ most)

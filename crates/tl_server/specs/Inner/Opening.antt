@@ -14,7 +14,7 @@ use Rattle.tl_server.specs.declared.adding.Outcome.TheVariants.{Nothing, Answere
 use Rattle.tl_server.specs.declared.adding.EntryStatus.{EntryStatus}
 use Rattle.tl_server.specs.declared.fault.ServeFault.{ServeFault}
 
--- what comes of sending an answer
+-- the outcome of sending an answer
 abbrev pub outcome_of : Result (Option ℕ) ServeFault → Result Outcome ServeFault
 outcome_of (Ok (Some status)) = Ok (Answered status)
 outcome_of (Ok None) = Ok Nothing
@@ -26,15 +26,15 @@ pub record Concluded (Courses : Course → Type 0) (o : Passage) (result : Resul
   pub decided : Courses course
   pub takes : Takes course o result
 
--- what becomes of an entry with this status, over a board
+-- what an entry with this status leads to, on the board
 abbrev pub StatusOnBoard : Type 0 → Past → Past → EntryStatus → Bytes → Course → Type 0
 StatusOnBoard A old new entry_status entry c = StatusAnswers (new ≡ old) (LooksUp A old new) (LooksOnce (LooksUp A old new)) entry entry_status c
 
--- the same over a shelf
+-- what an entry with this status leads to, on a shelf
 abbrev pub StatusOnShelf : Type 0 → Bool → Held → (Resource → ShelfFault → Type 0) → EntryStatus → Bytes → Course → Type 0
 StatusOnShelf A is_honest held MayFail entry_status entry c =
     StatusAnswers (Unit {0}) (ReadsShelf A is_honest held MayFail) (LooksTwice (ReadsShelf A is_honest held MayFail)) entry entry_status c
 
--- the same for some status that was reported
+-- what an entry with some reported status leads to
 abbrev pub SomeStatus : (Bytes → EntryStatus → Type 0) → (EntryStatus → Bytes → Course → Type 0) → Bytes → Course → Type 0
 SomeStatus Submits Becomes entry c = (entry_status : EntryStatus) × Submits entry entry_status × Becomes entry_status entry c

@@ -7,32 +7,32 @@ use Rattle.tl_server.specs.Answer.{Answer, bare}
 use Rattle.tl_server.specs.declared.look.Looked.{Looked}
 use Rattle.tl_server.specs.declared.look.Looked.TheVariants as looked
 
--- bytes are a bundle of so many entries, and this is what it has at a place
+-- the bytes are a bundle of `width` entries, and this is what it has at the place
 pub record Finds (bytes : Bytes) (width place : ℕ) (found : Option Bytes) : Type 0 where
   pub entries : List Bytes
   pub are : AreEntries width entries
   pub spelled : bytes ≡ bundle_text entries
   pub there : slice_get entries place ≡ found
 
--- bytes are a bundle of so many entries, and this one has that place
+-- the bytes are a bundle of `width` entries, with this one at the place
 abbrev pub HasEntry : Bytes → ℕ → ℕ → Bytes → Type 0
 HasEntry bytes width place entry = Finds bytes width place (Some entry)
 
--- bytes are no bundle of so many entries, or one that has nothing at the place
+-- the bytes aren't a bundle of `width` entries, or it has nothing at the place
 abbrev pub FindsNone : Bytes → ℕ → ℕ → Type 0
 FindsNone bytes width place = ¬ IsBundle bytes width ⊎ Finds bytes width place None
 
--- bytes are no bundle of so many entries, or another one has that place
+-- the bytes aren't a bundle of `width` entries, or it has another entry or none at the place
 abbrev pub LacksIt : Bytes → ℕ → ℕ → Bytes → Type 0
 LacksIt bytes width place entry = ¬ IsBundle bytes width ⊎ HasOther bytes width place entry
 
--- what looks at a bundle gave; Looks says what they may give, by the width that was looked at last
+-- the result of looking for a bundle; Looks says what it may give, by the width that was read last
 abbrev pub IsLooked : {A : Type 0} → (ℕ → Answer → Type 0) → Looked A → Type 0
 IsLooked Looks looked.Failed = (seen : ℕ) × Looks seen (bare 500)
 IsLooked Looks looked.Nothing = (seen : ℕ) × Looks seen (bare 404)
 IsLooked Looks (looked.Bytes bytes seen) = Looks seen (bundle_answer (vec_items bytes))
 
--- what becomes of an entry that was reported to have this index
+-- what an entry that was reported to have this index leads to
 abbrev pub LookedCourse : {A : Type 0} → ℕ → Bytes → Looked A → Course → Type 0
 LookedCourse index entry looked.Failed c = c ≡ Reply (bare 500)
 LookedCourse index entry looked.Nothing c = c ≡ Misplace

@@ -1,4 +1,4 @@
--- The steps of a request that hands a body in.
+-- The steps of a request with a body.
 use Rattle.std.specs.Prelude.{◌≡◌, ◌⊎◌, ℕ, ◌<◌, ◌≤◌, List, ◌++◌, Bool, codes, vec_items}
 use Rattle.tl_device.specs.Device.{Passage, HasFailed}
 use Rattle.tl_device.specs.Reading.{Gave, MayBe}
@@ -14,14 +14,14 @@ use Rattle.tl_server.specs.declared.posted.Posted.TheVariants.{OtherMethod, Unsi
 use Rattle.tl_server.specs.declared.receive.Received.{Received}
 use Rattle.tl_server.specs.declared.receive.Received.TheVariants as received
 
--- what a head says of a body of at most so many bytes
+-- what a head says of a body of at most `most` bytes
 abbrev pub AsksPost : ℕ → Bytes → List (Bytes × Bytes) → Posted → Type 0
 AsksPost most method fields OtherMethod = ¬ (method ≡ codes "POST")
 AsksPost most method fields Unsized = (method ≡ codes "POST") × ((n : ℕ) → ¬ (IsSized fields n))
 AsksPost most method fields TooLarge = (method ≡ codes "POST") × ((n : ℕ) × IsSized fields n × ¬ (n ≤ most))
 AsksPost most method fields (Sized n) = (method ≡ codes "POST") × IsSized fields n × (n ≤ most)
 
--- why there is no body in what follows the head, and the answer that says so
+-- why what follows the head has no body, and the answer that says so
 abbrev pub RefusesPost : Posted → Bytes → Answer → Type 0
 RefusesPost OtherMethod rest a = a ≡ not_allowed (codes "POST")
 RefusesPost Unsized rest a = a ≡ bare 400
@@ -29,7 +29,7 @@ RefusesPost TooLarge rest a = a ≡ bare 413
 RefusesPost (Sized n) rest a =
     ((0 < n) × (a ≡ bare 500)) ⊎ (((body : Bytes) → ¬ (HasBody rest n body)) × (a ≡ bare 400))
 
--- what is so of a request: Says that it has this answer, Takes that it has this body
+-- the cases of a request with a body: Says is given the answer if there is no body, Takes the body if there is one
 abbrev pub PostedRows : (Answer → Type 0) → (Bytes → Type 0) → Posted → Bytes → Type 0
 PostedRows Says Takes OtherMethod rest = Says (not_allowed (codes "POST"))
 PostedRows Says Takes Unsized rest = Says (bare 400)
@@ -37,17 +37,17 @@ PostedRows Says Takes TooLarge rest = Says (bare 413)
 PostedRows Says Takes (Sized n) rest =
     ((0 < n) × Says (bare 500)) ⊎ UnlessSome (HasBody rest n) (Says (bare 400)) Takes
 
--- what a witness answers, where part of what follows the head was read with it
+-- the answer of a witness; `part` is what came with the head of what follows it
 abbrev pub PostAnswers : Type 0 → (Bytes → Answer → Type 0) → Posted → Bytes → Bytes → Answer → Type 0
 PostAnswers Idle ReplyIs posted part rest a =
     PostedRows (λ r. Idle × (a ≡ r)) (λ body. ReplyIs body a) posted (part ++ rest)
 
--- what becomes of it at a log
+-- what a request leads to at a log that takes entries
 abbrev pub PostCourses : Type 0 → Type 0 → (Bytes → Course → Type 0) → Posted → Bytes → Bytes → Course → Type 0
 PostCourses Unasked Unseen Becomes posted part rest c =
     PostedRows (λ r. Unasked × Unseen × (c ≡ Reply r)) (λ entry. Becomes entry c) posted (part ++ rest)
 
--- this status says why there is no body, whatever follows what was read
+-- this status says why there is no body, whatever follows the bytes read
 pub record RefusedPost (i : Passage) (posted : Posted) (part : Bytes) (status : ℕ) : Type 0 where
   pub bytes : Bytes
   pub ended : Bool

@@ -3,12 +3,12 @@ use Rattle.std.specs.Prelude.{ℕ, List, [], ◌∷◌, ◌==◌, if◌then◌el
 use Rattle.tl_hash.specs.Bytes.{Bytes}
 use Rattle.tl_server.specs.Answer.{Answer, bare, crlf, not_allowed}
 
--- the text, or none where the list is empty
+-- the text, or nothing if the list is empty
 abbrev pub beside : Bytes → Bytes → Bytes
 beside [] text = []
 beside (b ∷ list) text = text
 
--- an answer's bytes in pieces
+-- the bytes of an answer in pieces
 abbrev pub answer_pieces : Bytes → Bytes → Bytes → Bytes → Bytes → Bytes → Bytes → List Bytes
 answer_pieces status reason allow retry kind size body =
     codes "HTTP/1.1 " ∷ status ∷ codes " " ∷ reason ∷ crlf

@@ -7,7 +7,7 @@ use Rattle.tl_bucket.specs.Commits.{Commit, IsCommit, commit_front}
 use Rattle.tl_bucket.proofs.CommitTexts.{one_front}
 use Rattle.tl_bucket.proofs.commit.read_commit.Goals as goal
 
--- what holds however a call ends holds where it fails
+-- what always holds, holds if a call fails
 anyhow : {X E P : Type 0} (r : Result X E) (fault : E) → P → IfErr r (λ f. f ≡ fault → P)
 anyhow (Ok _) fault holds = tt
 anyhow (Err _) fault holds = λ _. holds

@@ -5,7 +5,7 @@ use Rattle.tl_feed.specs.declared.unasked.Unasked.{Unasked}
 use Rattle.tl_feed.proofs.failing.is_told.Goals as goal
 use mathlib.Core.Bool.{not}
 
--- after a failure that is there
+-- after a failure
 after : (is_same : Unasked → Unasked → Bool) (before : Option Failure) (last failure : Failure) (answer : Bool) → before ≡ Some last
     → (IsTrue answer ↔ ((last.round ≡ failure.round) ⊎ (is_same last.why failure.why ≡ false))) → IsTrue answer ↔ IsTold is_same before failure
 after is_same before last failure answer is so = subst (λ (o : Option Failure). IsTrue answer ↔ IsTold is_same o failure) (sym is) so
@@ -14,7 +14,7 @@ after is_same before last failure answer is so = subst (λ (o : Option Failure).
 first : (is_same : Unasked → Unasked → Bool) (before : Option Failure) (failure : Failure) → before ≡ None → IsTrue true ↔ IsTold is_same before failure
 first is_same before failure is = (λ so. subst (λ (o : Option Failure). IsTold is_same o failure) (sym is) tt, λ so. refl)
 
--- of another round it is told for another reason alone
+-- a failure in another round is reported only for another reason
 other : (Same : Type 0) (is_same answer : Bool) → (Same → ⊥) → answer ≡ not is_same → IsTrue answer ↔ (Same ⊎ (is_same ≡ false))
 other Same true answer none is = (λ so. absurd cc, λ told. elim told as (λ _. IsTrue answer) [ inl same ↦ absurd (none same) | inr no_more ↦ absurd cc ])
 other Same false answer none is = (λ so. inr refl, λ told. is)
