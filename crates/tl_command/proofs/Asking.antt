@@ -36,7 +36,7 @@ gave_entry p most entries read some = (read.input, read.whole.consumed, lines_so
 pub gave_line : (p : Passage) (most : ℕ) (input : List ℕ) → ReadWhole p most input → 0 < length (entries_of input) → GaveSome p
 gave_line p most input whole some = (input, whole.consumed, lines_some input some)
 
--- a consistency proof is printed of no lines where the old size is 0
+-- a consistency proof is printed for no lines if the old size is 0
 pub asks_of_old : (old : ℕ) (p : Passage) (most : ℕ) (input : List ℕ) → ReadWhole p most input → old ≤ length (entries_of input) → IsAsking (ConsistencyComes old) p
 asks_of_old old p most input whole within =
     elim (cases_lt 0 old) as (λ _. IsAsking (ConsistencyComes old) p) [

@@ -20,7 +20,7 @@ short_fault A entries Truncated short given = absurd given
 short_fault A entries Trailing short given = absurd given
 short_fault A entries OutOfMemory short given = refl
 
--- where no entry is the first that is too long, none is
+-- if no entry is the first that is too long, none is
 pub none_too_long : (entries : List (List ℕ)) → first_too_long entries ≡ None → AreShortEntries entries
 none_too_long entries none = λ k d lt.
     elim (cases_lt (position_or_len is_too_long entries) (length entries)) as (λ _. IsShortEntry (get_or entries k d)) [

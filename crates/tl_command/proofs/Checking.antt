@@ -11,7 +11,7 @@ use Rattle.tl_command.specs.declared.commands.check.Finding.{Finding}
 use Rattle.tl_command.specs.declared.fault.RunFault.{RunFault}
 use Rattle.tl_command.specs.declared.fault.RunFault.TheVariants.{Refused, Read, Write, TooLarge, EntryTooLong, BadOrigin, BadIndex, BadOld, BadPath, NotThere, Malformed, Chain, Sign, Operator, Listen, Accept, OutOfMemory, BadName, BadKey, BadCheckpoint, WrongSignature, Unverified, Device, BadKeyFile, NothingThere}
 
--- what is to come of a text that was read, where what was found tells whether its proof is good
+-- the output for a text that was read, if the finding says whether its proof is good
 abbrev pub good_output : Bool → Output
 good_output true = Prints (answer_line true)
 good_output false = PrintsRefusal (answer_line false)
@@ -33,7 +33,7 @@ good_comes IsGood i input text c false whole same said means =
       so = (record { proof = has.proof; lawful = has.lawful; spelled = sym same ∙ said.1 ∙ ap lines_text has.spelled; fact = λ good. true≢false (sym ((means has.proof has.finding).1 good)) }, refl);
     }
 
--- what was found is about a subject where its proof is
+-- a finding is about a subject if its proof is
 pub about_means : (s : Subject) (c : Finding) (is_good : Bool) → (IsTrue is_good ↔ IsFindingAbout s c) → (p : Proof) → IsFinding p c → IsTrue is_good ↔ IsAbout s p
 about_means s c is_good found p is = (
   (λ good. let f = found.0 good in (is.says.0 f.0, record { same_size = sym is.size ∙ f.1.same_size; same_root = sym is.root ∙ f.1.same_root; shown = subst (Shows s.entry) is.leaf f.1.shown })),

@@ -20,7 +20,7 @@ use Rattle.tl_command.proofs.WholeLines.{IsShort, each_short, line_ends, none_lo
 
 -- ---- counting
 
--- so many lines of a text stand before the rest, and none of them is too long
+-- this many lines of a text stand before the rest, and none of them is too long
 pub record IsCounted (text rest : List ℕ) (count : ℕ) : Type 0 where
   pub front : List (List ℕ)
   pub whole : entries_of text ≡ front ++ entries_of rest

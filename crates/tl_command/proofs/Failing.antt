@@ -31,7 +31,7 @@ pub handed_on : (Holds : Result (Unit {0}) RunFault → Type 0) (r : Result (Uni
 handed_on Holds (Ok done) given fault is same holds = absurd is
 handed_on Holds (Err e) given fault is same holds = subst (λ (f : RunFault). Holds (Err f)) (sym (is ∙ same)) holds
 
--- and where it is the fault itself that is handed on
+-- and if it is the fault itself that is handed on
 pub passed_on : {T : Type 0} (Holds : Result T RunFault → Type 0) (r : Result T RunFault) (fault : RunFault) → IsErrAnd r (λ e. e ≡ fault) → Holds (Err fault) → Holds r
 passed_on Holds (Ok done) fault is holds = absurd is
 passed_on Holds (Err e) fault is holds = subst (λ (f : RunFault). Holds (Err f)) (sym is) holds

@@ -148,7 +148,7 @@ runs_check_opened text bytes entry k i o (Err (BadCheckpoint place)) spelled run
 runs_check_opened text bytes entry k i o (Err (WrongSignature place)) spelled runs = record { key = k; spelled = spelled; fact = runs }
 runs_check_opened text bytes entry k i o (Err Unverified) spelled runs = record { key = k; spelled = spelled; fact = runs }
 
--- the same where the keys are that one
+-- the same for a list of that one key
 pub runs_open_by : (keys : List Key) (text : List ℕ) (k : PublicKey) (i o : Passage) (r : Result (Unit {0}) RunFault) → IsVerifierText note_kind text k
     → keys ≡ verifier_key k ∷ [] → Runs (OpenComes keys) i o r → OpensSigned text i o r
 runs_open_by keys text k i o r spelled one runs = runs_open text k i o r spelled (subst (λ (ks : List Key). Runs (OpenComes ks) i o r) one runs)

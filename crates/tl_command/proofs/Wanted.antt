@@ -35,7 +35,7 @@ use Rattle.tl_command.proofs.NeededParts.{LiesIn, lies, lawful}
 pub has_all : {X : Type 0} (xs ys : List X) → xs ≡ ys → All (Contains ys) xs
 has_all xs ys same = subst (λ (t : List _). All (Contains t) xs) same (λ k d lt. (k, lt, get_or_default xs k (get_or xs k d) d lt))
 
--- the test of the resources tells of those of the log
+-- whether the test accepts a resource says whether the log has it
 pub served : (shown : List Resource) (n : ℕ) (wanted : Option Resource) (b : Bool) → shown ≡ mirrored n → IsTrue b ↔ IsServed shown wanted → b ≡ true
     → IsServed (mirrored n) wanted
 served shown n wanted b same told passed = subst (λ (t : List Resource). IsServed t wanted) same (told.0 passed)
@@ -74,7 +74,7 @@ asked_lawful None (Some r) asked = absurd asked
 asked_lawful (Some path) None asked = absurd asked
 asked_lawful (Some path) (Some r) asked = (r, asked.0, asked.1)
 
--- what comes of an input where a resource is wanted is what comes where its path is asked for
+-- the output for an input if a resource is asked for is the output if its path is asked for
 wanted_comes : (key : LogKey) (get : Option (List ℕ)) (wanted : Option Resource) (input : List ℕ) (outcome : Output) → length input ≤ most_input
     → IsAsked get wanted → WantedComes key wanted input outcome → BuildComes key get input outcome
 wanted_comes key get wanted input (Prints text) fits asked comes =
@@ -138,7 +138,7 @@ no_bundle index width = λ has.
 pub has_checkpoint : Contains (mirrored 0) resource.Checkpoint
 has_checkpoint = Contains-append_right (needed_resources 0) (resource.Checkpoint ∷ []) resource.Checkpoint (0, omega arith, refl)
 
--- something is printed of no entries where what is wanted is there
+-- something is printed for no entries if the resource asked for is there
 shown_of_none : (note : List ℕ) (entries : List (List ℕ)) (wanted : Option Resource) → entries ≡ [] → IsServed (mirrored 0) wanted → (text : List ℕ) × IsShown note entries wanted text
 shown_of_none note entries None none served = (listing_text note entries (mirrored (length entries)), refl)
 shown_of_none note entries (Some r) none served = (resource_text note entries r, (subst (λ (es : List (List ℕ)). Contains (mirrored (length es)) r) (sym none) served, refl))
@@ -206,7 +206,7 @@ not_there key wanted i o entries read none given =
     let absent : ¬ (IsServed (mirrored (length (entries_of read.input))) wanted) = subst (λ (es : List (List ℕ)). ¬ (IsServed (mirrored (length es)) wanted)) read.lines given in
     (record { input = read.input; whole = read.whole; so = (short, absent) }, none)
 
--- where there is no answer, the run has failed
+-- if there is no answer, the run has failed
 pub answer_fails : (A : Type 0) (key : LogKey) (wanted : Option Resource) (i o : Passage) (f : RunFault) (entries : List (List ℕ)) → ReadEntries i most_input entries → IsUnwritten o
     → IsAsking (WantedComes key wanted) i
     → AnswersWanted {A = A} (checkpoint_note key entries) entries wanted (Err f) → Runs (WantedComes key wanted) i o (Err f)
@@ -240,7 +240,7 @@ answer_fails A key wanted i o fault.Unverified entries read none asks given = ab
 asks_to_list : (key : LogKey) (i : Passage) → IsAsking (WantedComes key None) i
 asks_to_list key i = inr (listing_text (checkpoint_note key (entries_of [])) (entries_of []) (mirrored (length (entries_of []))), (none_too_long, refl))
 
--- where the input's edge wasn't read, the run has failed
+-- if the input's edge wasn't read, the run has failed
 pub list_fails : (key : LogKey) (i o : Passage) (f : RunFault) → IsUnwritten o → ReadsEdge i (Err f) → Runs (WantedComes key None) i o (Err f)
 list_fails key i o fault.Refused none reads = absurd reads
 list_fails key i o fault.Read none reads = (reads, none)
@@ -268,7 +268,7 @@ list_fails key i o (fault.BadCheckpoint place) none reads = absurd reads
 list_fails key i o (fault.WrongSignature place) none reads = absurd reads
 list_fails key i o fault.Unverified none reads = absurd reads
 
--- and it has where memory was refused for the listing
+-- the run has also failed if memory ran out for the listing
 pub list_refused : (key : LogKey) (i o : Passage) (f : RunFault) → IsUnwritten o → IsSteady i → f ≡ fault.OutOfMemory → Runs (WantedComes key None) i o (Err f)
 list_refused key i o f none steady is = subst (λ (e : RunFault). Runs (WantedComes key None) i o (Err e)) (sym is) (steady, none, asks_to_list key i)
 

@@ -9,7 +9,7 @@ pub record Audit : Type 0 where
   pub new : List Bytes
   pub proof : List Bytes
 
--- what has a text: fewer than 2^63 entries, each one line, and hashes
+-- the audits that have a text: fewer than 2^63 entries, each one line, and hashes
 pub record IsAudit (a : Audit) : Type 0 where
   pub old_count : IsSize (length a.old)
   pub old : All HasNoNewline a.old
@@ -17,7 +17,7 @@ pub record IsAudit (a : Audit) : Type 0 where
   pub new : All HasNoNewline a.new
   pub proof : All IsHash a.proof
 
--- entries behind a line with a word and their number
+-- a line of the word and the number of entries, and then the entries
 abbrev pub counted_lines : Bytes → List Bytes → List Bytes
 counted_lines word entries = (word ++ number_text (length entries)) ∷ entries
 

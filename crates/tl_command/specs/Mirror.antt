@@ -17,7 +17,7 @@ use Rattle.tl_key.specs.NoteKey.{SeedKey, key_id}
 use Rattle.tl_ed25519.specs.Eddsa.{public_key, sign}
 use Rattle.tl_command.specs.Head.{head_text}
 
--- a log's key: its name, which is the log's, and its one signature of a message
+-- a log's key: it has the log's name, and one signature of each message
 pub record LogKey : Type 0 where
   pub name : Bytes
   pub signature : Bytes → Signature
@@ -38,13 +38,13 @@ checkpoint_note key entries = note_bytes (head_text key.name entries) (key.signa
 abbrev pub mirrored : ℕ → List Resource
 mirrored size = needed_resources size ++ resource.Checkpoint ∷ []
 
--- the bytes of a resource over the entries, where this is the checkpoint's note
+-- the bytes of a resource of the log of these entries, whose checkpoint is this note
 abbrev pub resource_text : Bytes → List Bytes → Resource → Bytes
 resource_text note entries (resource.Tile t) = tile_text sha256 t entries
 resource_text note entries (resource.Entries index width) = bundle_text (take width (drop (index * 256) entries))
 resource_text note entries resource.Checkpoint = note
 
--- the path of a resource and the number of its bytes, a space between
+-- the line of a resource: its path, a space, and the number of its bytes
 abbrev pub listing_line : Bytes → List Bytes → Resource → Bytes
 listing_line note entries r = line (path_text r ++ 32 ∷ number_text (length (resource_text note entries r)))
 

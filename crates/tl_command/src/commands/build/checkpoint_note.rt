@@ -16,9 +16,8 @@ use std::alloc::{Allocator, Global};
 use std::thread::Threads;
 use tl_hash::Hash;
 
-/// The note of the checkpoint of a log of `size` entries, below 2^63, with this root (C2SP tlog-checkpoint,
-/// signed-note), signed by the log's key. `global` is what the key takes its memory from. It fails for want of memory
-/// alone.
+/// Returns the note of the checkpoint of a log of `size` entries, below 2^63, with this root, signed by the log's key
+/// (C2SP tlog-checkpoint, signed-note). The key takes its memory from `global`. It fails only if allocation fails.
 pub fn sign_checkpoint<K: LogSigner, A: Allocator + Copy>(
     alloc: A,
     global: Global,
@@ -40,8 +39,8 @@ pub fn sign_checkpoint<K: LogSigner, A: Allocator + Copy>(
     Ok(note)
 }
 
-/// The note of the checkpoint of the log of these lines, signed by the log's key. Up to `threads` threads hash, with
-/// memory from `workers`.
+/// Returns the note of the checkpoint of the log of these lines, signed by the log's key. Up to `threads` threads
+/// hash, with memory from `workers`.
 pub(crate) fn checkpoint_note_of<
     H: Threads + Sync,
     K: LogSigner,
