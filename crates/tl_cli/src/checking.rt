@@ -10,7 +10,7 @@ use std::io::{Read, Write};
 use tl_command::{CheckOptions, GivenEntry, RunFault, read_file, run_check_opened};
 use tl_device::Counted;
 
-// Checks the proof of the input, about this entry, if one is given, against the checkpoint in a file.
+// Checks the proof of the input against the checkpoint in a file, about this entry, if one is given.
 fn check_in_file<H: Files, R: Read, W: Write>(
     rt: &H,
     alloc: Global,
@@ -37,7 +37,7 @@ fn check_in_file<H: Files, R: Read, W: Write>(
     )
 }
 
-// Checks the proof of the input about the bytes of a file, against the checkpoint in another.
+// Checks the proof of the input, about the bytes of a file, against the checkpoint in another file.
 fn check_file_entry<H: Files, R: Read, W: Write>(
     rt: &H,
     alloc: Global,
@@ -56,7 +56,7 @@ fn check_file_entry<H: Files, R: Read, W: Write>(
     }
 }
 
-// Checks the proof of the input, about what is given, against the checkpoint in a file.
+// Checks the proof of the input, about the given entry, against the checkpoint in a file.
 fn check_given<H: Files, R: Read, W: Write>(
     rt: &H,
     alloc: Global,
@@ -79,7 +79,7 @@ fn check_given<H: Files, R: Read, W: Write>(
     }
 }
 
-/// Checks the proof of the input against the checkpoint in a file, about the entry that is given, if one is.
+/// Checks the proof of the input against the checkpoint in a file, about the entry that the options give, if any.
 pub(crate) fn check_under<H: Files, R: Read, W: Write>(
     rt: &H,
     alloc: Global,

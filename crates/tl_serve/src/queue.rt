@@ -178,8 +178,8 @@ impl<'w, O: Write> LineQueue<'w, O> {
         self.changed.notify_all();
     }
 
-    /// Writes a line, by this thread or another, and returns its link. After a write failed, every call fails, and so do
-    /// those that wait. It may wait.
+    /// Writes a line, by this thread or another, and returns its link. After a write failed, every call fails, and so
+    /// do those that wait. It may wait.
     pub(crate) fn save<R: Wait>(&self, rt: &R, line: LinkLine) -> Result<WrittenLink, SaveFault> {
         let Some(ticket) = self.put(rt, line) else {
             return Err(SaveFault);
