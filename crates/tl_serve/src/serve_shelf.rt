@@ -246,9 +246,9 @@ fn serve_under<
 
 /// Serves as `run_serve` does, at this site, the log on a shelf, which begins or goes on there. What the lanes give
 /// is appended, published, and reported once it survives a crash. A thread for each of `shown`, of which there are
-/// `threads_of`, answers with what is on the shelf. If the shelf fails, the server ends. Gives the shelf back;
-/// `found` has what was read. It may wait. Fails with `NothingThere` if no log is there, with `Taken` if one is but
-/// should begin, and with `Older` if it has fewer than `start` entries.
+/// `threads_of`, answers from it. If the shelf fails, the server ends. Gives the shelf back; `found` has what was
+/// read. It may wait. Fails with `NothingThere` if no log is there, with `Taken` if one is but should begin, and with
+/// `Older` if it has fewer than `start` entries.
 pub fn run_serve_shelf<
     H: Host + Net<Listener = TcpListener, Stream = TcpStream>,
     S: LogShelf + Drop,

@@ -160,11 +160,11 @@ fn keep_and_feed<S: ResourceSource, K: TrustStore, Q: AsksWitnesses, W: Write>(
     Ok(())
 }
 
-/// Brings the checkpoint of the log of this policy before its witnesses (C2SP tlog-witness). The source's checkpoint
-/// has to be signed by the log, and to extend the state's by an accepted consistency proof. It is kept, and each
-/// witness is asked with a proof from the size that it has. The note is printed with the lines of all that cosigned
-/// it, if they are as many as the policy needs; else it fails with `TooFew`. If the log forked, it prints evidence:
-/// the state's note, the new one, and what shows the fork.
+/// Brings the checkpoint of the log of this policy before its witnesses (C2SP tlog-witness). The log has to have
+/// signed it, and it has to extend the state's by an accepted consistency proof. It is kept, and each witness is
+/// asked with a proof from the size that it has. The note is printed with the lines of all that cosigned it, if they
+/// are as many as the policy needs; else it fails with `TooFew`. If the log forked, it prints evidence: both notes,
+/// and what shows the fork.
 pub fn feed_under<S: ResourceSource, K: TrustStore, O: Observer, Q: AsksWitnesses, W: Write>(
     alloc: Global,
     source: &S,
