@@ -249,10 +249,10 @@ fn serve_keyed<
 }
 
 /// Serves as `run_serve_shelf` does, but shows a checkpoint only once enough witnesses have cosigned it (C2SP
-/// tlog-witness, tlog-cosignature). The checkpoint is kept as a proposal, and a thread for each witness asks, with
-/// proofs from a shelf of its own. If a witness gives no cosignature, the reason is printed to `out`, and it is asked
-/// again after a pause. Until then readers see the last one shown. Fails with `BadKey` if a text is no witness's key,
-/// or two have one name, and with `Malformed` if one is no address.
+/// tlog-witness, tlog-cosignature). It is kept as a proposal, and a thread for each witness asks, with proofs from a
+/// shelf of its own. If a witness gives no cosignature, the reason is printed to `out`, and it is asked again after a
+/// pause. Until then readers see the last one shown. Fails with `BadKey` if a text is no witness's key, or two have
+/// one name, and with `Malformed` if one is no address.
 pub fn run_serve_cosigned<
     H: Host + Net<Listener = TcpListener, Stream = TcpStream>,
     S: Shelf + Drop,

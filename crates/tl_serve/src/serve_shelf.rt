@@ -248,7 +248,7 @@ fn serve_under<
 /// is appended, published, and reported once it survives a crash. A thread for each of `shown`, of which there are
 /// `threads_of`, answers from it. If the shelf fails, the server ends. Gives the shelf back; `found` has what was
 /// read. It may wait. Fails with `NothingThere` if no log is there, with `Taken` if one is but should begin, and with
-/// `Older` if it has fewer than `start` entries.
+/// `Older` if it lacks `start` entries.
 pub fn run_serve_shelf<
     H: Host + Net<Listener = TcpListener, Stream = TcpStream>,
     S: LogShelf + Drop,

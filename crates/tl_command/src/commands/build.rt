@@ -209,10 +209,10 @@ fn list<
 }
 
 /// Reads the whole input and writes what a static mirror of the log of its lines serves (C2SP tlog-tiles): without a
-/// path a line `path length` for each resource, the checkpoint last; with a path the bytes of that resource. The
-/// log's key signs the checkpoint, with memory from `global`. It fails with `BadOrigin` if the key's name can't be a
-/// key's and with `BadPath` if no resource has the path, both before it reads, and with `NotThere` if the log doesn't
-/// have the resource. Up to `threads` threads hash, with memory from `workers`.
+/// path a line `path length` for each resource, the checkpoint last; with a path that resource. The log's key signs
+/// the checkpoint, with memory from `global`. It fails with `BadOrigin` if the key's name can't be a key's and with
+/// `BadPath` if no resource has the path, both before it reads, and with `NotThere` if the log lacks the resource. Up
+/// to `threads` threads hash, with memory from `workers`.
 pub fn run_build<
     H: Threads + Sync,
     K: LogSigner,
