@@ -9,8 +9,8 @@ pub trait Observer {
     ghost use Rattle.sha2.specs.Sha256.{sha256};
     ghost use Rattle.tl_tile.specs.Verified.{AreVerified};
 
-    /// These tiles passed all checks against a size and a root, and so did the entries asked for before the index
-    /// `next`. An earlier call had the first `known` tiles.
+    /// Is called once these tiles passed all checks against a size and a root, and so did the entries asked for
+    /// before the index `next`. An earlier call had the first `known` tiles.
     fn checked<A: Allocator>(
         &mut self,
         head: &Head,
@@ -20,7 +20,7 @@ pub trait Observer {
     )
         requires { AreVerified sha256 head.now.size head.now.root tiles.now };
 
-    /// These tiles passed all checks against a size and a root; no entry was checked.
+    /// Is called once these tiles passed all checks against a size and a root, and no entry was checked.
     fn passed<A: Allocator>(&mut self, head: &Head, tiles: &FetchedTiles<A>)
         requires { AreVerified sha256 head.now.size head.now.root tiles.now };
 }

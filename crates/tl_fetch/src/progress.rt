@@ -58,6 +58,6 @@ impl<E: Write> Observer for Progress<'_, E> {
         let _ = self.tell(head, next);
     }
 
-    // The line changes with entries only.
+    // Does nothing: the line only shows entries.
     fn passed<A: Allocator>(&mut self, _head: &Head, _tiles: &FetchedTiles<A>) {}
 }

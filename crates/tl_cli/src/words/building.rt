@@ -57,7 +57,7 @@ const BUILD: Words = Words {
     ],
 };
 
-/// The words of `build`.
+/// Returns the words of `build`.
 pub(super) fn build() -> &'static Words {
     &BUILD
 }
@@ -83,7 +83,7 @@ const APPEND: Words = Words {
     ],
 };
 
-/// The words of `append`.
+/// Returns the words of `append`.
 pub(super) fn append() -> &'static Words {
     &APPEND
 }

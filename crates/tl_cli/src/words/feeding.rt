@@ -39,7 +39,7 @@ const FEED: Words = Words {
     ],
 };
 
-/// The words of `feed`.
+/// Returns the words of `feed`.
 pub(super) fn feed() -> &'static Words {
     &FEED
 }

@@ -63,7 +63,7 @@ const FETCH: Words = Words {
     ],
 };
 
-/// The words of `fetch`.
+/// Returns the words of `fetch`.
 pub(super) fn fetch() -> &'static Words {
     &FETCH
 }

@@ -27,7 +27,7 @@ const HEAD: Words = Words {
     }],
 };
 
-/// The words of `head`.
+/// Returns the words of `head`.
 pub(super) fn head() -> &'static Words {
     &HEAD
 }
@@ -45,7 +45,7 @@ const INCLUSION: Words = Words {
     }],
 };
 
-/// The words of `inclusion`.
+/// Returns the words of `inclusion`.
 pub(super) fn inclusion() -> &'static Words {
     &INCLUSION
 }
@@ -63,7 +63,7 @@ const CONSISTENCY: Words = Words {
     }],
 };
 
-/// The words of `consistency`.
+/// Returns the words of `consistency`.
 pub(super) fn consistency() -> &'static Words {
     &CONSISTENCY
 }
@@ -91,7 +91,7 @@ const CHECK: Words = Words {
     ],
 };
 
-/// The words of `check`.
+/// Returns the words of `check`.
 pub(super) fn check() -> &'static Words {
     &CHECK
 }
@@ -110,7 +110,7 @@ const KEYGEN: Words = Words {
     }],
 };
 
-/// The words of `keygen`.
+/// Returns the words of `keygen`.
 pub(super) fn keygen() -> &'static Words {
     &KEYGEN
 }
@@ -130,7 +130,7 @@ const OPEN: Words = Words {
     }],
 };
 
-/// The words of `open`.
+/// Returns the words of `open`.
 pub(super) fn open() -> &'static Words {
     &OPEN
 }
@@ -142,7 +142,7 @@ const AUDIT: Words = Words {
     groups: &[],
 };
 
-/// The words of `audit`.
+/// Returns the words of `audit`.
 pub(super) fn audit() -> &'static Words {
     &AUDIT
 }

@@ -97,7 +97,7 @@ const SERVE: Words = Words {
     ],
 };
 
-/// The words of `serve`.
+/// Returns the words of `serve`.
 pub(super) fn serve() -> &'static Words {
     &SERVE
 }

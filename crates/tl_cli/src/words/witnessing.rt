@@ -56,7 +56,7 @@ const WITNESS: Words = Words {
     ],
 };
 
-/// The words of `witness`.
+/// Returns the words of `witness`.
 pub(super) fn witness() -> &'static Words {
     &WITNESS
 }
