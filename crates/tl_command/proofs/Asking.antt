@@ -1,4 +1,4 @@
--- Where a command asks for memory: something was read, or something is printed of nothing.
+-- When a command allocates: something was read, or something is printed for an empty input.
 use Rattle.std.proofs.Common.{◌≡◌, ℕ, suc, ◌+◌, ◌<◌, ◌≤◌, inl, inr, List, [], ◌∷◌, length, None, refl, sym, ap, ◌∙◌, arith, Some}
 use Rattle.std.proofs.lemmas.Bool.{cases_lt}
 use Rattle.std.specs.Prelude.{Err}
@@ -44,7 +44,7 @@ asks_of_old old p most input whole within =
       | inr none ↦ inr (consistency_text (consistency_of old (entries_of [])), (none_too_long, omega (arith, none), refl))
     ]
 
--- a checkpoint is printed of any input
+-- a checkpoint is printed for any input
 pub asks_of_head : (origin : List ℕ) (p : Passage) → IsAsking (HeadComes origin) p
 asks_of_head origin p = inr (head_text origin (entries_of []), (none_too_long, refl))
 

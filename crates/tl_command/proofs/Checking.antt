@@ -1,4 +1,4 @@
--- What `check` says of a proof is what is to come of its text.
+-- What `check` says of a proof is the output for its text.
 use Rattle.std.proofs.Common.{◌≡◌, inl, inr, List, ℕ, refl, sym, ap, ◌∙◌, subst, true≢false}
 use Rattle.std.specs.Prelude.{◌↔◌, Bool, true, false, IsTrue, Result, Ok, Err}
 use Rattle.tl_device.specs.Device.{Passage, ReadWhole}
@@ -40,7 +40,7 @@ about_means s c is_good found p is = (
   (λ about. found.1 (is.says.1 about.0, record { same_size = is.size ∙ about.1.same_size; same_root = is.root ∙ about.1.same_root; shown = subst (Shows s.entry) (sym is.leaf) about.1.shown })),
 )
 
--- a run prints the answer that is to come of its input
+-- a run prints the output for its input
 pub answered : (Comes : List ℕ → Output → Type 0) (i o : Passage) (is_good : Bool) (result : Result (Unit {0}) RunFault) → CameOf Comes i (good_output is_good)
     → PrintsAnswer is_good o result → Runs Comes i o result
 answered Comes i o true (Ok done) came prints = record { text = answer_line true; came = came; written = prints.1 }

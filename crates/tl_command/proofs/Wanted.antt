@@ -1,4 +1,4 @@
--- From the resource that is wanted to the path that was asked for.
+-- From the resource asked for to its path.
 use Rattle.std.proofs.Common.{◌≡◌, ℕ, ◌+◌, ◌*◌, ◌^◌, ◌<◌, [], ◌∷◌, refl, Bool, true, false, List, length, sym, ap, subst, ◌∙◌, All, ◌≤◌, get_or, inl, inr, ◌⊎◌, ◌↔◌, IsTrue, arith}
 use Rattle.std.specs.Prelude.{Contains, None, Some, Option, Result, Ok, Err, IfOk, IfErr}
 use Rattle.std.specs.declared.vec.Vec.{Vec}
@@ -40,7 +40,7 @@ pub served : (shown : List Resource) (n : ℕ) (wanted : Option Resource) (b : B
     → IsServed (mirrored n) wanted
 served shown n wanted b same told passed = subst (λ (t : List Resource). IsServed t wanted) same (told.0 passed)
 
--- a resource that is wanted and there is one of the log, and lies in it
+-- a resource that is asked for and is there is one of the log, and lies in it
 pub wanted_served : (shown : List Resource) (n : ℕ) (wanted : Option Resource) (b : Bool) (r : Resource) → shown ≡ mirrored n → IsTrue b ↔ IsServed shown wanted → b ≡ true
     → wanted ≡ Some r → Contains (mirrored n) r
 wanted_served shown n wanted b r same told passed is = subst (IsServed (mirrored n)) is (served shown n wanted b same told passed)
@@ -153,7 +153,7 @@ asks_for key wanted i entries read either =
           inr (shown.0, (none_too_long, shown.1))
     ]
 
--- a run for a resource that is wanted is a run for the path that was asked for
+-- a run for the resource asked for is a run for its path
 pub runs_build : (key : LogKey) (get : Option (List ℕ)) (wanted : Option Resource) (i o : Passage) (r : Result (Unit {0}) RunFault) → IsKeyName key.name → IsAsked get wanted
     → Runs (WantedComes key wanted) i o r → RunsBuild key get i o r
 runs_build key get wanted i o (Ok done) named asked runs = (named, asked_lawful get wanted asked, record { text = runs.text; came = came key get wanted i (Prints runs.text) asked runs.came; written = runs.written })
@@ -188,7 +188,7 @@ runs_build key get wanted i o (Err (fault.BadCheckpoint place)) named asked runs
 runs_build key get wanted i o (Err (fault.WrongSignature place)) named asked runs = (named, asked_lawful get wanted asked, never key get wanted i o (Fails (fault.WrongSignature place)) asked runs)
 runs_build key get wanted i o (Err fault.Unverified) named asked runs = (named, asked_lawful get wanted asked, never key get wanted i o (Fails fault.Unverified) asked runs)
 
--- the bytes of the resource that is wanted are the answer
+-- the bytes of the resource asked for are the answer
 pub answers_some : (A : Type 0) (note n : List ℕ) (entries : List (List ℕ)) (size : ℕ) (wanted : Option Resource) (r : Resource) (result : Result (Vec ℕ A) RunFault) → wanted ≡ Some r
     → n ≡ note → length entries ≡ size → Contains (mirrored size) r → IfOk result (λ bytes. bytes.items ≡ resource_text n entries r) → IfErr result (λ f. f ≡ fault.OutOfMemory)
     → AnswersWanted note entries wanted result
@@ -198,7 +198,7 @@ answers_some A note n entries size wanted r (Ok text) is same count has shown me
     subst (λ (w : Option Resource). IsShown note entries w text.items) (sym is) (there, spelled)
 answers_some A note n entries size wanted r (Err f) is same count has shown memory = subst (λ (e : RunFault). AnswersWanted {A = A} note entries wanted (Err e)) (sym memory) tt
 
--- the log hasn't got what is wanted
+-- the log doesn't have the resource asked for
 pub not_there : (key : LogKey) (wanted : Option Resource) (i o : Passage) (entries : List (List ℕ)) → ReadEntries i most_input entries → IsUnwritten o
     → ¬ (IsServed (mirrored (length entries)) wanted) → Runs (WantedComes key wanted) i o (Err fault.NotThere)
 not_there key wanted i o entries read none given =
@@ -236,7 +236,7 @@ answer_fails A key wanted i o (fault.BadCheckpoint place) entries read none asks
 answer_fails A key wanted i o (fault.WrongSignature place) entries read none asks given = absurd given
 answer_fails A key wanted i o fault.Unverified entries read none asks given = absurd given
 
--- the listing is asked for of any input
+-- the listing is printed for any input
 asks_to_list : (key : LogKey) (i : Passage) → IsAsking (WantedComes key None) i
 asks_to_list key i = inr (listing_text (checkpoint_note key (entries_of [])) (entries_of []) (mirrored (length (entries_of []))), (none_too_long, refl))
 
@@ -287,7 +287,7 @@ list_came key i edge lengths sizes size root text bytes read measured counted ha
       so = (read.short, same ∙ is entries count (sym (hashed entries read.stands)) are ∙ ap (λ (n : ℕ). listing_text (checkpoint_note key entries) entries (mirrored n)) (sym count));
     }
 
--- what came of an input of which this answer is shown
+-- the output for an input for which this answer is shown
 answered : (key : LogKey) (wanted : Option Resource) (i : Passage) (entries : List (List ℕ)) (text bytes : List ℕ) → ReadEntries i most_input entries → IsShown (checkpoint_note key entries) entries wanted bytes → text ≡ bytes
     → CameOf (WantedComes key wanted) i (Prints text)
 answered key wanted i entries text bytes read shown same = record {
