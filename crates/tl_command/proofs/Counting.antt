@@ -154,7 +154,7 @@ pub short_none : (entries : List (List ℕ)) → AreShortEntries entries → fir
 short_none entries short =
     none_longer entries [] refl (All-weaker IsShortEntry IsShort (λ entry fits. le-ltb 65535 (length entry) (omega (arith, fits))) entries short)
 
--- their edge isn't known only if memory ran out
+-- if their edge isn't known, memory ran out
 pub edge_memory : (lines : List (List ℕ)) (fault : RunFault) → AreShortEntries lines → IsEdgeFault lines fault → fault ≡ OutOfMemory
 edge_memory lines (EntryTooLong place) short given = let bad : None ≡ Some place = sym (short_none lines short) ∙ given in absurd cc
 edge_memory lines OutOfMemory short given = refl
