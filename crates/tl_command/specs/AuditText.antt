@@ -1,4 +1,5 @@
--- Texts of audits (a format of this project): two lists of entries, and a consistency proof from the one to the other.
+-- Texts of audits (a format of this project): two lists of entries, and a consistency proof from the first to the
+-- second.
 use Rattle.std.specs.Prelude.{List, ◌∷◌, ◌++◌, length, All, map, codes}
 use Rattle.tl_hash.specs.Bytes.{Bytes, IsHash}
 use Rattle.tl_text.specs.Text.{number_text, base64_text, IsSize}

@@ -1,4 +1,5 @@
--- What a static mirror of a log serves (C2SP tlog-tiles): its tiles, entry bundles and checkpoint, each under its path.
+-- What a static mirror of a log serves (C2SP tlog-tiles): its tiles, entry bundles and checkpoint, each under its
+-- path.
 use Rattle.std.specs.Prelude.{ℕ, ◌*◌, List, [], ◌∷◌, ◌++◌, length, take, drop}
 use Rattle.std.specs.List.{flat_map}
 use Rattle.sha2.specs.Sha256.{sha256}

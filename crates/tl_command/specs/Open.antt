@@ -1,4 +1,5 @@
--- The command `open`: what a key signed of a note (C2SP signed-note, "Verification"; C2SP tlog-cosignature, "Format").
+-- The command `open`: what a key signed of a note (C2SP signed-note, "Verification"; C2SP tlog-cosignature,
+-- "Format").
 use Rattle.std.specs.Prelude.{◌≡◌, ◌⊎◌, ℕ, List, [], ◌∷◌, Some, Result, Err}
 use Rattle.tl_hash.specs.Bytes.{Bytes}
 use Rattle.tl_note.specs.Key.{Key}

@@ -129,8 +129,8 @@ fn print_bundle<S: ResourceSource, A: Allocator + Copy, O: Observer, W: Write>(
 /// Prints the entries from this index, counted from 0, to the end of a log of this size and root, a line each. An
 /// entry that has a newline or begins with a backslash follows a line with a backslash and its length. Each is
 /// checked as by `fetch_entry`; nothing is printed of a bundle that fails. A tile is asked for and hashed once; a
-/// host is asked ahead, by `requests`. It fails with `BadIndex` if the index is above the size or the log has more
-/// than 2^62 entries.
+/// host is asked ahead, by `requests`. It fails with `BadIndex` if the index is above the size or the log exceeds
+/// 2^62 entries.
 pub fn print_entries<
     S: ResourceSource + AsksHost,
     H: HostClient,
