@@ -12,7 +12,7 @@ use Rattle.tl_cli.specs.declared.fault.CommandFault.TheVariants.{Run, Bucket}
 use Rattle.std.specs.Prelude.{Bool, Result, Ok}
 use Rattle.std.specs.Result.{IsErr}
 
--- who ends with a fault of a bucket is refused
+-- a run that ends with a fault of a bucket fails
 pub refused : (fault : RunFault) (result : Result (Unit {0}) CommandFault) → EndsInBucket (Err fault) result → IsRefused result
 refused fault result (inl run) = (Run fault, run)
 refused fault result (inr own) = (Bucket own.0, own.1)
@@ -22,7 +22,7 @@ pub is_refused : (result : Result (Unit {0}) CommandFault) → IsErr result → 
 is_refused (Ok done) fails = absurd (true≢false (sym fails))
 is_refused (Err fault) fails = (fault, refl)
 
--- a bucket that was opened by a client is that of the options which tell the client's place
+-- a bucket opened by a client is that of the options with the client's place
 pub opened : (options : BucketOptions) (new : Bool) (b : Bucketed) (p : Place) (token : Bytes) → IsPlaceOf (string_bytes options.address) p → p.credential.region ≡ string_bytes options.region
     → IsKeyFor options p.credential.id p.credential.secret → IsToken token → b.objects ≡ no_objects p b.objects.claims b.objects.shown → RefusesPuts p → IsAtEnd p token b.objects.claims → KnowsShown p b.objects.shown
     → BeginsThere new b.objects.claims b.objects.shown
@@ -51,7 +51,7 @@ pub key_by : (options : BucketOptions) (id secret name hidden : Bytes) → name 
 key_by options id secret name hidden named same key =
     subst (λ (n : Bytes). IsKeyFor options n hidden) (sym named) (subst (λ (h : Bytes). IsKeyFor options id h) (sym same) key)
 
--- a log of as many entries as were told, or nothing was done
+-- a log of this many entries, or nothing was done
 pub started : (Left : Type 0) (size start committed : ℕ) → start ≡ committed → Left ⊎ (size ≡ start) → Left ⊎ (size ≡ committed)
 started Left size start committed same (inl left) = inl left
 started Left size start committed same (inr is) = inr (is ∙ same)

@@ -13,7 +13,7 @@ use Rattle.tl_bucket.specs.declared.fault.BucketFault.TheVariants as bucket
 use Rattle.tl_cli.specs.declared.fault.CommandFault.{CommandFault}
 use Rattle.tl_cli.specs.declared.fault.CommandFault.TheVariants.{Run, Fetch, Witness, Bucket, Credentials, KeyFile}
 
--- how a command ended that is neither `fetch` nor `witness`, how `fetch` ended, and how `witness` did
+-- the outcome of a command that is neither `fetch` nor `witness`, of `fetch`, and of `witness`
 abbrev pub by_run : Result (Unit {0}) RunFault → Result (Unit {0}) CommandFault
 by_run (Ok done) = Ok done
 by_run (Err fault) = Err (Run fault)
@@ -26,18 +26,18 @@ abbrev pub by_witness : Result (Unit {0}) WitnessFault → Result (Unit {0}) Com
 by_witness (Ok done) = Ok done
 by_witness (Err fault) = Err (Witness fault)
 
--- the exit status of a fault of `witness`: where the file of the logs isn't read, that of the device's fault
+-- the exit status for a fault of `witness`: if the file of the logs can't be read, that for the device's fault
 abbrev pub witness_status : WitnessFault → ℕ
 witness_status (why.Run fault) = exit_status fault
 witness_status (why.LogsFile fault) = device_status fault
 witness_status (why.Logs fault) = 1
 
--- the exit status of a fault of a bucket
+-- the exit status for a fault of a bucket
 abbrev pub bucket_status : BucketFault → ℕ
 bucket_status (bucket.Device why) = device_status why
 bucket_status fault = 1
 
--- the exit status of a fault
+-- the exit status for a fault
 abbrev pub command_status : CommandFault → ℕ
 command_status (Run fault) = exit_status fault
 command_status (Fetch fault) = fetch_status fault
@@ -47,11 +47,11 @@ command_status (Credentials None) = 1
 command_status (Credentials (Some why)) = device_status why
 command_status (KeyFile which why) = device_status why
 
--- the exit status: 0 where all was done, and else that of the fault
+-- the exit status: 0 if the command succeeded, else that of the fault
 abbrev pub status_of : Result (Unit {0}) CommandFault → ℕ
 status_of (Ok done) = 0
 status_of (Err fault) = command_status fault
 
--- this was written to standard error, or a part where it failed, or nothing for want of memory
+-- this was written to standard error, or a part of it until that failed, or nothing because allocation failed
 abbrev pub Told : Bytes → Passage → Type 0
 Told text e = WroteWhole e text ⊎ WrotePart e text ⊎ IsUnwritten e

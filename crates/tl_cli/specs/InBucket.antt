@@ -26,22 +26,22 @@ use Rattle.tl_cli.specs.declared.in_bucket.AppendToOptions.{AppendToOptions}
 use Rattle.tl_cli.specs.declared.in_bucket.ServeFromOptions.{ServeFromOptions}
 use Rattle.tl_cli.specs.declared.own_bucket.BucketOptions.{BucketOptions}
 
--- how a command ends that ran like this on a bucket: with its own fault, or with that of the bucket
+-- how a command ends whose run on a bucket had this outcome: with its own fault, or with that of the bucket
 abbrev pub EndsInBucket : Result (Unit {0}) RunFault → Result (Unit {0}) CommandFault → Type 0
 EndsInBucket (Ok done) result = result ≡ Ok done
 EndsInBucket (Err fault) result = (result ≡ Err (Run fault)) ⊎ ((why : BucketFault) × (result ≡ Err (Bucket why)))
 
--- it ends with some fault
+-- the command fails
 abbrev pub IsRefused : Result (Unit {0}) CommandFault → Type 0
 IsRefused result = (fault : CommandFault) × (result ≡ Err fault)
 
--- a text of two lines, of which the last may lack its newline: a key's name, and its secret
+-- a text of two lines, a key's name and its secret; the last may lack its newline
 pub record IsKeyText (text id secret : Bytes) : Type 0 where
   pub name : IsOneLine id
   pub hidden : IsOneLine secret
   pub lines : (text ≡ line id ++ secret) ⊎ (text ≡ line id ++ line secret)
 
--- the key is that of a file, where the options name one; or the environment has it
+-- the key is that in a file, if the options name one; or the environment has it
 abbrev pub IsKeyFor : BucketOptions → Bytes → Bytes → Type 0
 IsKeyFor options id secret = (options.credentials ≡ None) ⊎ ((text : Bytes) × IsKeyText text id secret)
 
@@ -49,14 +49,14 @@ IsKeyFor options id secret = (options.credentials ≡ None) ⊎ ((text : Bytes) 
 abbrev pub IsToken : Bytes → Type 0
 IsToken token = (bytes : Bytes) × (length bytes ≡ 16) × (token ≡ encode_lower bytes)
 
--- the place is that of an address, behind which a slash may come
+-- the place is that of an address, which may end with a slash
 abbrev pub IsPlaceOf : Bytes → Place → Type 0
 IsPlaceOf address p = (text host : Bytes) × (port : ℕ) × ((address ≡ text) ⊎ (address ≡ text ++ 47 ∷ []))
     × IsUrl text p.host host port p.prefix
 
--- the bucket that the options name was opened: nothing waits and nothing was done yet; a log begins there if it is asked
--- to, and else there is one; its store refused puts whose conditions didn't hold, and what is appended next comes behind
--- the last commit that was found
+-- the bucket that the options name was opened, with nothing waiting and nothing done yet. A log begins there if that
+-- is asked for, and otherwise there is one. The store refused puts whose conditions didn't hold, and the next append
+-- comes behind the last commit that was found
 pub record OpensBucket (options : BucketOptions) (new : Bool) (b : Bucketed) : Type 0 where
   pub named : b.place ≡ string_bytes options.address
   pub at : IsPlaceOf (string_bytes options.address) b.objects.at
@@ -73,8 +73,8 @@ pub record OpensBucket (options : BucketOptions) (new : Bool) (b : Bucketed) : T
   pub events : b.events ≡ []
   pub unmarked : b.published ≡ None
 
--- what others began was finished in a bucket that was opened, and then the log went on from what was found there, as
--- one in a folder does, unless nothing was read or written: it has as many entries as the commits append
+-- what others began in an opened bucket was finished, and then the log went on from what was found there, as one in a
+-- folder does. It has as many entries as the commits append, unless nothing was read or written
 pub record GoesOnThere (held : Held) (reached : Reached) (opened : Bucketed) (options : AppendOptions) (i o : Passage) (result : Result (Unit {0}) CommandFault) : Type 0 where
   pub before : Bucketed
   pub finished : FinishesLog held reached options.key (string_bytes options.origin) opened before (Ok tt)
@@ -89,17 +89,17 @@ pub record GoesOnThere (held : Held) (reached : Reached) (opened : Bucketed) (op
   pub begins : OnOk outcome (BeginsAsAsked options.is_new found.head)
   pub ends : EndsInBucket outcome result
 
--- `append` in a bucket that was opened; or it could not be finished, and nothing was read or written here
+-- `append` in an opened bucket; or what others began couldn't be finished, and nothing was read or written here
 abbrev pub AppendsThere : Held → Reached → Bucketed → AppendOptions → Passage → Passage → Result (Unit {0}) CommandFault → Type 0
 AppendsThere held reached opened options i o result =
     (IsRefused result × IsIdle i o) ⊎ GoesOnThere held reached opened options i o result
 
--- in the bucket that the options name; or it could not be opened
+-- `append` in the bucket that the options name; or it couldn't be opened
 abbrev pub AppendsTo : Held → Reached → AppendToOptions → Passage → Passage → Result (Unit {0}) CommandFault → Type 0
 AppendsTo held reached options i o result = (IsRefused result × IsIdle i o)
     ⊎ ((opened : Bucketed) × OpensBucket options.bucket options.append.is_new opened × AppendsThere held reached opened options.append i o result)
 
--- the same of a log that is served
+-- the same for a log that is served
 pub record ServesBucket (held : Held) (reached : Reached) (opened : Bucketed) (options : ServeOptions) (result : Result (Unit {0}) CommandFault) : Type 0 where
   pub before : Bucketed
   pub finished : FinishesLog held reached options.key (string_bytes options.origin) opened before (Ok tt)
@@ -114,11 +114,11 @@ pub record ServesBucket (held : Held) (reached : Reached) (opened : Bucketed) (o
       (visit (bucket_kept held reached) (bucket_trace held reached) before after) outcome
   pub ends : EndsInBucket outcome result
 
--- `serve` in a bucket that was opened
+-- `serve` in an opened bucket
 abbrev pub ServesThere : Held → Reached → Bucketed → ServeOptions → Passage → Result (Unit {0}) CommandFault → Type 0
 ServesThere held reached opened options i result = (IsRefused result × IsUnread i) ⊎ ServesBucket held reached opened options result
 
--- in the bucket that the options name
+-- `serve` in the bucket that the options name
 abbrev pub ServesFrom : Held → Reached → ServeFromOptions → Passage → Result (Unit {0}) CommandFault → Type 0
 ServesFrom held reached options i result = (IsRefused result × IsUnread i)
     ⊎ ((opened : Bucketed) × OpensBucket options.bucket options.serve.is_new opened × ServesThere held reached opened options.serve i result)

@@ -1,4 +1,4 @@
--- Private words: what contracts of private functions and proofs need.
+-- Definitions that only contracts of private functions and proofs need.
 pub
     mod Compacting
 pub mod Keys

@@ -36,7 +36,7 @@ use Rattle.tl_evidence.specs.ForkCommand.{RunsFork}
 use Rattle.tl_command.specs.declared.commands.checking.GivenEntry.{GivenEntry}
 use Rattle.tl_command.specs.declared.commands.checking.GivenEntry.TheVariants.{Text, File}
 
--- the result is such a fault
+-- the result is the fault of a file that can't be read
 abbrev pub IsUnopened : Result (Unit {0}) RunFault → Type 0
 IsUnopened (Ok done) = ⊥
 IsUnopened (Err fault) = IsFileFault fault
@@ -46,12 +46,13 @@ abbrev pub ChecksFile : Bytes → Option Bytes → Passage → Passage → Resul
 ChecksFile key entry i o result =
     ((bytes : Bytes) × RunsCheckOpened key bytes entry i o result) ⊎ (IsUnopened result × IsIdle i o)
 
--- a run against it about the entry that a file has: its bytes decide, or it can't be read, and then nothing else is done
+-- a run against that checkpoint about the entry in a file: the file's bytes decide, or it can't be read, and then
+-- nothing else is done
 abbrev pub ChecksEntryIn : Bytes → Passage → Passage → Result (Unit {0}) RunFault → Type 0
 ChecksEntryIn key i o result =
     ((entry : Bytes) × ChecksFile key (Some entry) i o result) ⊎ (IsUnopened result × IsIdle i o)
 
--- a run against it about the entry that is given: none, a text, or the bytes of a file
+-- a run against that checkpoint about the given entry: none, a text, or the bytes of a file
 abbrev pub ChecksGiven : Bytes → Option GivenEntry → Passage → Passage → Result (Unit {0}) RunFault → Type 0
 ChecksGiven key None i o result = ChecksFile key None i o result
 ChecksGiven key (Some (Text entry)) i o result = ChecksFile key (Some (string_bytes entry)) i o result
@@ -61,17 +62,17 @@ ChecksGiven key (Some (File path)) i o result = ChecksEntryIn key i o result
 abbrev pub BuildsDemo : Bytes → Bytes → Option Bytes → Passage → Passage → Result (Unit {0}) RunFault → Type 0
 BuildsDemo origin secret get = RunsBuild (demo_log_key (record { name = origin; secret = secret })) get
 
--- a run signed by the key in a file, likewise
+-- a run signed by the key in a file
 abbrev pub BuildsSigned : Bytes → Option Bytes → Passage → Passage → Result (Unit {0}) RunFault → Type 0
 BuildsSigned origin get i o result =
     ((bytes : Bytes) × RunsSigned origin bytes get i o result) ⊎ (IsUnopened result × IsIdle i o)
 
--- the type of a witness's key, and of a log's
+-- the type of a key: a witness's, or a log's
 abbrev pub key_kind : Bool → ℕ
 key_kind true = cosignature_kind
 key_kind false = note_kind
 
--- how a command ended of which this is known, how `fetch` ended, and how `witness` did
+-- the outcome of a command has this property; that of `fetch` has; that of `witness` has
 abbrev pub IsRun : (Result (Unit {0}) RunFault → Type 0) → Result (Unit {0}) CommandFault → Type 0
 IsRun Is result = (outcome : Result (Unit {0}) RunFault) × Is outcome × (result ≡ by_run outcome)
 
@@ -81,8 +82,9 @@ IsFetched Is result = (outcome : Result (Unit {0}) FetchFault) × Is outcome × 
 abbrev pub IsWitness : (Result (Unit {0}) WitnessFault → Type 0) → Result (Unit {0}) CommandFault → Type 0
 IsWitness Is result = (outcome : Result (Unit {0}) WitnessFault) × Is outcome × (result ≡ by_witness outcome)
 
--- a run of a job's command: i is its reader, o its writer, and e standard error, to which keygen, fetch, feed and the
--- servers alone write; and the folder of a log that it had to itself, if it had one, whatever was there at first
+-- a run of a job's command: `i` is its reader, `o` its writer, and `e` standard error, to which only `keygen`,
+-- `fetch`, `feed` and the servers write; `folder` is the folder of a log that it had to itself, if it had one,
+-- whatever was there at first
 abbrev pub RunsJob : Held → Reached → Job → Option Folder → Passage → Passage → Passage → Result (Unit {0}) CommandFault → Type 0
 RunsJob held reached (Head options) folder i o e result = IsRun (RunsHead (string_bytes options.origin) i o) result × IsUnwritten e
 RunsJob held reached (Build options) folder i o e result =
@@ -117,8 +119,8 @@ RunsJob held reached Version folder i o e result = IsRun (PrintsVersion o) resul
 RunsJob held reached (Help text) folder i o e result =
     IsRun (PrintsText (string_bytes text) o) result × IsUnread i × IsUnwritten e
 
--- the job's command ran, its fault was told, and the exit status says how it ended. In between standard error held
--- these bytes, or had failed
+-- the job's command ran, its fault was reported, and the exit status is that of its outcome. In between standard
+-- error held these bytes, or had failed
 pub record EndsJob (held : Held) (reached : Reached) (job : Job) (i o e : Passage) (status : ℕ) : Type 0 where
   pub bytes : Option (List ℕ)
   pub failed : Bool
@@ -128,12 +130,12 @@ pub record EndsJob (held : Held) (reached : Reached) (job : Job) (i o e : Passag
   pub ended : status ≡ status_of result
   pub told : Tells job result (record { old = bytes; new = e.new; had_failed = failed; has_failed = e.has_failed })
 
--- nothing was read and nothing was written, and the exit status is this
+-- nothing was read or written, and this is the exit status
 abbrev pub EndsBefore : Passage → Passage → ℕ → ℕ → Type 0
 EndsBefore i o wanted status = IsUnread i × IsUnwritten o × (status ≡ wanted)
 
--- the words name a job, whose command ran; or they name none, and the status is 2; or the file of a public key wasn't
--- read, and it is 3; or that has no text, or allocation failed, and it is 1
+-- the words name a job, whose command ran; or they name none, and the status is 2; or the file of a public key can't
+-- be read, and it is 3; or that file has no text, or allocation failed, and it is 1
 abbrev pub EndsWords : Held → Reached → Passage → Passage → Passage → ℕ → Type 0
 EndsWords held reached i o e status =
     ((job : Job) × EndsJob held reached job i o e status)

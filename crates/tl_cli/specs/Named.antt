@@ -1,4 +1,4 @@
--- What the options of a job name: the file, the folder, the address or the option that a fault is over.
+-- What the options of a job name: the file, the folder, the address or the option of a fault.
 use Rattle.std.specs.Prelude.{ℕ, List, Option, Some, None, String, codes, option_map, slice_get, string_bytes, vec_items}
 use Rattle.tl_hash.specs.Bytes.{Bytes}
 use Rattle.tl_run.specs.declared.place.Place.{Place}
@@ -75,14 +75,14 @@ abbrev pub new_key_of : Job → Option Bytes
 new_key_of (KeygenTo options) = Some (string_bytes options.out)
 new_key_of job = None
 
--- what they name for a place
+-- what the options name for a place
 abbrev pub base_of : Job → Place → Option Bytes
 base_of job place.File = file_of job
 base_of job place.State = state_of job
 base_of job (place.Log resource) = log_of job
 base_of job (place.Source resource) = source_of job
 
--- the address of the witness at a place, and an address that the options name
+-- the address of the witness with an index, and an address that the options name
 abbrev pub text_at : {A : Type 0} → List (String A) → ℕ → Option Bytes
 text_at texts place = option_map string_bytes (slice_get texts place)
 

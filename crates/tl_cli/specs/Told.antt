@@ -1,4 +1,4 @@
--- What standard error is told of how a job ended.
+-- What is printed to standard error when a job ends.
 use Rattle.std.specs.Prelude.{◌≡◌, ◌⊎◌, ◌==◌, Bool, true, false, [], ◌++◌, codes, Result, Ok, Err, Option, Some, None}
 use Rattle.std.specs.List.{starts_with}
 use Rattle.tl_hash.specs.Bytes.{Bytes}
@@ -27,7 +27,7 @@ use Rattle.tl_cli.specs.declared.fault.KeyFile.{KeyFile}
 use Rattle.tl_cli.specs.declared.fault.KeyFile.TheVariants.{Private, Public}
 use Rattle.tl_cli.specs.declared.fault.CommandFault.TheVariants as fault
 
--- the resource that a place is, if it is one
+-- the resource of a place, if it has one
 abbrev pub resource_of : Place → Option Resource
 resource_of place.File = None
 resource_of place.State = None
@@ -36,12 +36,12 @@ resource_of (place.Source resource) = Some resource
 
 -- ---- the line of a fault
 
--- the path of a resource under that, or that itself where there is no resource or it has no path
+-- the path of a resource under the base, or the base itself if there is no resource or it has no path
 abbrev pub IsWhere : Bytes → Option Resource → Bytes → Type 0
 IsWhere base None path = path ≡ base
 IsWhere base (Some resource) path = IsTarget base resource path ⊎ ((IsResource resource → ⊥) × (path ≡ base))
 
--- the line of a fault over a place: where, and in which words why
+-- the line of a fault at a place: the place, and the words for the fault
 abbrev pub IsLineAt : Option Bytes → Place → Bytes → Bytes → Type 0
 IsLineAt None place words text = text ≡ line (codes "tlog: " ++ place_words place ++ codes ": " ++ words)
 IsLineAt (Some base) place words text =
@@ -58,8 +58,8 @@ abbrev pub line_or_none : Option Bytes → Bytes
 line_or_none None = []
 line_or_none (Some text) = line text
 
--- the line of a fault that other commands have, too, if it has one: that of a device, of what is no checkpoint or no key
--- there, of a text that is of no key, of a place where nothing is, or of another kind
+-- the line of a fault that other commands have, too, if it has one: of a device; of bytes that are no checkpoint or
+-- no key; of a text that is no key's; of a place where nothing is; or of another kind
 abbrev pub IsLineOfRun : Job → RunFault → Bytes → Type 0
 IsLineOfRun job (Device place why) text = IsLineAt (base_of job place) place (device_words why) text
 IsLineOfRun job (BadCheckpoint place) text = IsLineAt (base_of job place) place (codes "bad checkpoint") text
@@ -68,7 +68,7 @@ IsLineOfRun job BadKeyFile text = IsLineAt (file_of job) place.File (codes "bad 
 IsLineOfRun job (NothingThere place) text = IsLineAt (base_of job place) place (nothing_words place) text
 IsLineOfRun job other text = text ≡ line_or_none (fault_text other)
 
--- the line of a fault over the file of the logs
+-- the line of a fault of the file of the logs
 abbrev pub logs_line : Option Bytes → Bytes → Bytes
 logs_line None words = line (codes "tlog: " ++ codes "logs" ++ codes ": " ++ words)
 logs_line (Some path) words = line (codes "tlog: " ++ path ++ codes ": " ++ words)
@@ -79,7 +79,7 @@ IsLineOfWitness job (why.Run other) text = IsLineOfRun job other text
 IsLineOfWitness job (why.LogsFile other) text = text ≡ logs_line (logs_file job) (device_words other)
 IsLineOfWitness job (why.Logs other) text = text ≡ logs_line (logs_file job) (logs_words other)
 
--- the line of a fault over the key that signs requests to a bucket, and why its file isn't read, if it isn't
+-- the line of a fault of the key that signs requests to a bucket, with the reason if its file can't be read
 abbrev pub credentials_line : Option Bytes → Option DeviceFault → Bytes
 credentials_line None why = line (codes "tlog: no credentials")
 credentials_line (Some path) None = line (codes "tlog: " ++ path ++ codes ": " ++ codes "bad credentials")
@@ -89,12 +89,12 @@ credentials_line (Some path) (Some why) = line (codes "tlog: " ++ path ++ codes 
 abbrev pub is_secure : Bytes → Bool
 is_secure address = starts_with (λ a b. a == b) address (codes "https://")
 
--- why an address is none, which may be one over TLS
+-- the words for an address that isn't accepted, which may be one over TLS
 abbrev pub address_words : Bool → Bytes
 address_words true = codes "bad address (TLS needs a proxy: see docs/OPERATING.md)"
 address_words false = codes "bad address"
 
--- the line of an address that is none
+-- the line of an address that isn't accepted
 abbrev pub address_line : Option Bytes → Bytes
 address_line None = line (codes "tlog: " ++ codes "address" ++ codes ": " ++ codes "bad address")
 address_line (Some address) = line (codes "tlog: " ++ address ++ codes ": " ++ address_words (is_secure address))
@@ -111,15 +111,15 @@ IsLineOf job (fault.Credentials why) text = text ≡ credentials_line (credentia
 IsLineOf job (fault.KeyFile which why) text =
     text ≡ line (codes "tlog: " ++ key_path (new_key_of job) which ++ codes ": " ++ device_words why)
 
--- a text was written to standard error, or a part of it where that failed
+-- a text was written to standard error, or a part of it until that failed
 abbrev pub Wrote : Bytes → Passage → Type 0
 Wrote text e = WroteWhole e text ⊎ WrotePart e text
 
--- the line of a fault of a job was written there; or nothing was, for want of memory
+-- the line of a fault of a job was written; or nothing was, because allocation failed
 abbrev pub TellsFault : Job → CommandFault → Passage → Type 0
 TellsFault job fault e = IsUnwritten e ⊎ ((text : Bytes) × IsLineOf job fault text × Wrote text e)
 
--- what standard error is told of how a job ended: nothing where all was done, and else the fault
+-- what a job prints to standard error at its end: nothing if it succeeded, else the fault
 abbrev pub Tells : Job → Result (Unit {0}) CommandFault → Passage → Type 0
 Tells job (Ok done) e = IsUnwritten e
 Tells job (Err fault) e = TellsFault job fault e

@@ -11,7 +11,7 @@ use tl_command::{CheckOptions, GivenEntry, run_check_opened};
 use tl_device::Counted;
 use tl_run::{RunFault, read_file};
 
-// Checks the proof of the input, about this entry, if one is given, against the checkpoint in a file.
+// Checks the proof of the input against the checkpoint in a file, about this entry, if one is given.
 fn check_in_file<H: Files, R: Read, W: Write>(
     rt: &H,
     alloc: Global,
@@ -38,7 +38,7 @@ fn check_in_file<H: Files, R: Read, W: Write>(
     )
 }
 
-// Checks the proof of the input about the bytes of a file, against the checkpoint in another.
+// Checks the proof of the input, about the bytes of a file, against the checkpoint in another file.
 fn check_file_entry<H: Files, R: Read, W: Write>(
     rt: &H,
     alloc: Global,
@@ -57,7 +57,7 @@ fn check_file_entry<H: Files, R: Read, W: Write>(
     }
 }
 
-// Checks the proof of the input, about what is given, against the checkpoint in a file.
+// Checks the proof of the input, about the given entry, against the checkpoint in a file.
 fn check_given<H: Files, R: Read, W: Write>(
     rt: &H,
     alloc: Global,
@@ -80,7 +80,7 @@ fn check_given<H: Files, R: Read, W: Write>(
     }
 }
 
-/// Checks the proof of the input against the checkpoint in a file, about the entry that is given, if one is.
+/// Checks the proof of the input against the checkpoint in a file, about the entry that the options give, if any.
 pub(crate) fn check_under<H: Files, R: Read, W: Write>(
     rt: &H,
     alloc: Global,

@@ -23,7 +23,7 @@ pub enum CommandFault {
     Witness(WitnessFault),
     /// A fault of a bucket.
     Bucket(BucketFault),
-    /// The key that signs requests to a bucket isn't there: why its file isn't read, if it isn't.
+    /// The key that signs requests to a bucket is lacking; if its file can't be read, this is why.
     Credentials(Option<DeviceFault>),
     /// The file of a new key can't be made or written.
     KeyFile(KeyFile, DeviceFault),
@@ -32,13 +32,13 @@ pub enum CommandFault {
 /// One of the two files of a new key.
 #[derive(Clone, Copy, Debug, PartialEq, Eq)]
 pub enum KeyFile {
-    /// That of the private key.
+    /// The file of the private key.
     Private,
-    /// That of the verifier key.
+    /// The file of the verifier key.
     Public,
 }
 
-// The exit status of a fault of `witness`.
+// Returns the exit status of a fault of `witness`.
 fn witness_exit_of(fault: &WitnessFault) -> u8
     ensures { result ≡ witness_status fault.now }
 {
@@ -49,7 +49,7 @@ fn witness_exit_of(fault: &WitnessFault) -> u8
     }
 }
 
-// The exit status of a fault.
+// Returns the exit status of a fault.
 pub(crate) fn command_exit_of(fault: &CommandFault) -> u8
     ensures { result ≡ command_status fault.now }
 {
@@ -80,7 +80,7 @@ impl<X: Drop> From<AllocFailed<X>> for CommandFault {
     }
 }
 
-// How a command ended that is neither `fetch` nor `witness`.
+// Returns the outcome of a command that is neither `fetch` nor `witness`.
 pub(crate) fn after_run(outcome: Result<(), RunFault>) -> Result<(), CommandFault>
     ensures { result ≡ by_run outcome }
 {
@@ -90,7 +90,7 @@ pub(crate) fn after_run(outcome: Result<(), RunFault>) -> Result<(), CommandFaul
     }
 }
 
-// How `fetch` ended.
+// Returns the outcome of `fetch`.
 pub(crate) fn after_fetch(outcome: Result<(), FetchFault>) -> Result<(), CommandFault>
     ensures { result ≡ by_fetch outcome }
 {
@@ -100,7 +100,7 @@ pub(crate) fn after_fetch(outcome: Result<(), FetchFault>) -> Result<(), Command
     }
 }
 
-// How `witness` ended.
+// Returns the outcome of `witness`.
 pub(crate) fn after_witness(outcome: Result<(), WitnessFault>) -> Result<(), CommandFault>
     ensures { result ≡ by_witness outcome }
 {

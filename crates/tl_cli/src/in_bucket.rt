@@ -35,7 +35,7 @@ use tl_serve::{BoundListener, Host, ServeOptions, Served, Site, run_serve_shelf,
 pub struct AppendToOptions {
     /// The bucket.
     pub bucket: BucketOptions,
-    /// What is appended, as to a folder.
+    /// What is appended, as for a folder.
     pub append: AppendOptions,
 }
 
@@ -44,11 +44,11 @@ pub struct AppendToOptions {
 pub struct ServeFromOptions {
     /// The bucket.
     pub bucket: BucketOptions,
-    /// How it is served, as from a folder.
+    /// How it is served, as for a folder.
     pub serve: ServeOptions,
 }
 
-// Finishes what was begun in a bucket, and appends the lines of the input.
+// Finishes what other operators began in a bucket, and appends the lines of the input.
 fn finish_and_append<
     D: CrashOutcome + PutsTogether + Drop,
     H: Net<Stream = TcpStream> + Clock + Files<File = File>,
@@ -89,9 +89,9 @@ fn finish_and_append<
     after_bucket(&shelf, outcome)
 }
 
-/// Appends the lines of the input to the log in a bucket. What other operators began is finished first, and the log is
-/// gone on from only where it has just the entries that commits append. The bucket's own faults are told; `Outrun`:
-/// another operator has appended meanwhile.
+/// Appends the lines of the input to the log in a bucket. It first finishes what other operators began, and goes on
+/// only if the log has just the entries that commits append. A fault of the bucket itself is reported as such;
+/// `Outrun` says that another operator appended meanwhile.
 pub(crate) fn append_to<
     D: CrashOutcome + PutsTogether + Drop,
     H: Net<Stream = TcpStream> + Clock + Files<File = File> + RandomSource + Env,
@@ -117,7 +117,7 @@ pub(crate) fn append_to<
     finish_and_append(rt, alloc, append, shelf, reader, writer)
 }
 
-// So many shelves of the bucket, for threads that read there.
+// Returns this many shelves of the bucket, for threads that read it.
 fn shown_of<'b, D: CrashOutcome + Copy + Drop, H: Net<Stream = TcpStream> + Clock>(
     disk: D,
     rt: &'b H,
@@ -173,7 +173,7 @@ fn serve_sealed<
     Served { shelf, outcome }
 }
 
-// Finishes what was begun in a bucket, and serves the log that is there.
+// Finishes what other operators began in a bucket, and serves the log there.
 fn finish_and_serve<
     'b,
     D: CrashOutcome + PutsTogether + Copy + Send + Drop,
@@ -208,7 +208,7 @@ fn finish_and_serve<
     after_bucket(&shelf, outcome)
 }
 
-/// Serves the log in a bucket, as one in a folder is served. What other operators began is finished first.
+/// Serves the log in a bucket as one in a folder. It first finishes what other operators began.
 pub(crate) fn serve_from<
     D: CrashOutcome + PutsTogether + Copy + Send + Drop,
     H: Host

@@ -9,9 +9,9 @@ use tl_serve::{ServeOptions, WitnessOptions};
 /// The options of `inclusion`.
 #[derive(Clone, Copy)]
 pub struct InclusionOptions {
-    /// The place of the line, counted from 0.
+    /// The index of the line, counted from 0.
     pub index: u64,
-    /// How many threads hash at once, 1 at least; without it, as many as the machine has.
+    /// How many threads hash at once, at least 1; without it, as many as the machine has.
     pub threads: Option<u16>,
 }
 
@@ -20,7 +20,7 @@ pub struct InclusionOptions {
 pub struct ConsistencyOptions {
     /// The number of the first lines.
     pub old: u64,
-    /// How many threads hash at once, 1 at least; without it, as many as the machine has.
+    /// How many threads hash at once, at least 1; without it, as many as the machine has.
     pub threads: Option<u16>,
 }
 
@@ -29,7 +29,7 @@ pub struct ConsistencyOptions {
 pub struct KeyFileOptions {
     /// The key's name and its type.
     pub key: KeygenOptions,
-    /// The file of the private key; that of the verifier key has `.pub` behind it.
+    /// The file of the private key. The file of the verifier key has this name with `.pub` at its end.
     pub out: String,
 }
 
@@ -40,11 +40,11 @@ pub enum Job {
     Head(HeadOptions),
     /// Print what a static mirror of the log of the lines of standard input serves.
     Build(BuildOptions),
-    /// The same, signed by a private key.
+    /// Print that, signed by a private key.
     BuildSigned(SignedOptions),
     /// Append the lines of standard input to the log in a folder.
     Append(AppendOptions),
-    /// Append them to the log in a bucket.
+    /// Append the lines of standard input to the log in a bucket.
     AppendTo(AppendToOptions),
     /// Print the inclusion proof of a line of standard input.
     Inclusion(InclusionOptions),
@@ -52,7 +52,7 @@ pub enum Job {
     Consistency(ConsistencyOptions),
     /// Say whether the proof on standard input is accepted.
     Check,
-    /// Say whether it is accepted and about a signed checkpoint.
+    /// Say whether that proof is accepted and about a signed checkpoint.
     CheckUnder(CheckOptions),
     /// Say whether standard input is evidence that a log forked.
     CheckFork {
@@ -72,7 +72,7 @@ pub enum Job {
     Audit,
     /// Serve the log of the lines of standard input.
     Serve(ServeOptions),
-    /// Serve the log in a bucket, to which they are appended.
+    /// Serve the log in a bucket, and append the lines of standard input to it.
     ServeFrom(ServeFromOptions),
     /// Serve a witness of one log, or of those that a file names.
     Witness(WitnessOptions),

@@ -10,12 +10,12 @@ use tl_device::{Counted, DeviceFault};
 use tl_key::{Cosignature, Note};
 use tl_run::RunFault;
 
-// The mode of the file of a private key, which its owner alone reads, and that of a verifier key.
+// The modes of the file of a private key, which only its owner may read, and of the file of a verifier key.
 const PRIVATE: u32 = 0o600;
 
 const PUBLIC: u32 = 0o644;
 
-// Makes a file that isn't there yet, of this mode, if the system sets modes.
+// Makes a file that isn't there yet, with this mode if the system has modes.
 fn make<H: Files<File = File>>(rt: &H, path: &str, mode: u32) -> Result<File, DeviceFault> {
     let mut options = OpenOptions::new();
     options.write(true).create_new(true).mode(mode);
@@ -28,7 +28,7 @@ fn make<H: Files<File = File>>(rt: &H, path: &str, mode: u32) -> Result<File, De
     }
 }
 
-// Writes a new key into its files, and has both outlast a crash.
+// Writes a new key into its files, so that both outlast a crash.
 fn write_key<H: RandomSource>(
     rt: &H,
     alloc: Global,
@@ -51,9 +51,9 @@ fn write_key<H: RandomSource>(
     Err(RunFault::Write)
 }
 
-/// Makes a key, and writes its private text to the file at `out`, which its owner alone may read, and the verifier's to
-/// the file with `.pub` behind that. `KeyFile`: one of the files can't be made; it is there already, for instance.
-/// After a fault neither is there that wasn't before.
+/// Makes a key. It writes the private text to the file at `out`, which only its owner may read, and the verifier's
+/// text to the file with `.pub` behind that name. It fails with `KeyFile` if one of the files can't be made, for
+/// instance because it is already there. After a fault it leaves neither file, unless it was there before.
 pub(crate) fn keygen_to<H: Files<File = File> + RandomSource>(
     rt: &H,
     alloc: Global,

@@ -13,7 +13,7 @@ use tl_run::{RunFault, read_file};
 pub(crate) enum KeyTextFault {
     /// The file at this path can't be read, or has no text.
     Unread(String, RunFault),
-    /// Allocation fails.
+    /// Allocation failed.
     OutOfMemory,
 }
 
@@ -51,7 +51,7 @@ fn path_in(value: &str) -> Option<(&str, &str)> {
     }
 }
 
-// The text of the file at a path, without the newline that ends it, and what stands behind it.
+// Returns the text of the file at a path, without a newline at its end, and what stands behind the path.
 fn text_at<H: Files>(
     rt: &H,
     alloc: Global,
@@ -70,8 +70,8 @@ fn text_at<H: Files>(
     Ok(format!(in alloc; "{text}{rest}")?)
 }
 
-// A word of a command. If the one before it takes a key, or if it is an option that does, with a value behind an equals
-// sign, the text of the file stands in the place of `@FILE`.
+// Returns a word of a command. If the word before takes a key, or if the word is an option that does, with its value
+// behind an equals sign, the text of the file replaces `@FILE`.
 fn word_of<H: Files>(
     rt: &H,
     alloc: Global,
@@ -97,8 +97,8 @@ fn word_of<H: Files>(
     }
 }
 
-/// Returns the words of a command, the program's own name first, with the text of a file in the place of each `@FILE`
-/// that stands for a public key.
+/// Returns the words of a command, the program's name first, with the text of a file in place of each `@FILE` that
+/// stands for a public key.
 pub(crate) fn with_key_texts<H: Files>(
     rt: &H,
     alloc: Global,
@@ -117,7 +117,7 @@ pub(crate) fn with_key_texts<H: Files>(
     Ok(given)
 }
 
-// Writes why the text of a key isn't read from a file.
+// Prints why the text of a key can't be read from a file.
 fn tell_unread<E: Write>(
     alloc: Global,
     path: &str,
@@ -133,8 +133,8 @@ fn tell_unread<E: Write>(
     Ok(())
 }
 
-/// Writes a line to `errors` that says which file of a key isn't read, and why. The result is the exit status: 3 if a
-/// device failed, and else 1.
+/// Prints a line to `errors` that says which file of a key can't be read, and why. It returns the exit status: 3 if a
+/// device failed, else 1.
 pub(crate) fn end_unread<E: Write>(
     alloc: Global,
     path: &str,

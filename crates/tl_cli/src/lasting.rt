@@ -27,7 +27,7 @@ use tl_serve::{
     run_witness,
 };
 
-// How the batches of standard input are joined: no read of a plain file waits for who writes there.
+// Returns how the batches of standard input are joined: reads of a plain file never wait for a writer.
 fn joining_of<H: Files>(rt: &H) -> Joining {
     match rt.metadata("/dev/stdin") {
         Ok(metadata) if metadata.is_file() => Joining::Always,
@@ -35,8 +35,8 @@ fn joining_of<H: Files>(rt: &H) -> Joining {
     }
 }
 
-/// Appends the lines of the input to the log in a folder, where no other process works meanwhile, or begins one, if the
-/// options say so. The folder is then in `folder`, if it could be opened.
+/// Appends the lines of the input to the log in a folder, which no other process may work on meanwhile, or begins a
+/// log there, if the options say so. If the folder could be opened, `folder` has it afterwards.
 pub(crate) fn append<
     D: CrashOutcome + Drop,
     H: Files<File = File> + Copy + Drop,
@@ -87,8 +87,8 @@ pub(crate) fn append<
     outcome
 }
 
-/// Serves a log that is in a folder, where one is given and no other process works there, and else in memory. The
-/// folder is then in `folder`, where it could be opened.
+/// Serves a log in a folder, if the options name one and no other process works on it, or else in memory. If the
+/// folder could be opened, `folder` has it afterwards.
 pub(crate) fn serve<
     D: CrashOutcome + Copy + Send + Drop,
     H: Host
@@ -118,7 +118,7 @@ pub(crate) fn serve<
     }
 }
 
-// Whether a witness of these may be served: one log has a key's name.
+// Reports whether a witness of these logs may be served: a single log needs the name of a key.
 fn may_serve(logs: &KnownLogs) -> bool
     ensures { IsTrue result ↔ MayServe logs.now }
 {
@@ -128,12 +128,13 @@ fn may_serve(logs: &KnownLogs) -> bool
     }
 }
 
-// Why a state isn't opened, read or written, as the command tells it.
+// Returns the fault of `witness` for a state that can't be opened, read or written.
 fn state_fault(fault: DeviceFault) -> WitnessFault {
     WitnessFault::Run(RunFault::of_device(Place::State, fault))
 }
 
-// Puts one line of each origin in the place of the lines of a file, which the reader gives: how many bytes they have.
+// Replaces the lines of a file, which the reader gives, by one line of each origin, and returns how many bytes they
+// have.
 fn compact_lines<H: Files, R: Read>(
     alloc: Global,
     reader: &mut Counted<R>,
@@ -151,7 +152,7 @@ fn compact_lines<H: Files, R: Read>(
     }
 }
 
-// Compacts the file of lines at this path, which is locked meanwhile, and tells how many bytes became how many.
+// Compacts the file of lines at this path, which is locked meanwhile, and reports its size before and after.
 fn compact<H: Files<File = File>, E: Write>(
     rt: &H,
     alloc: Global,
@@ -176,7 +177,7 @@ fn compact<H: Files<File = File>, E: Write>(
     Ok(())
 }
 
-// Checks, before anything is made, that there is no file at this path where a state begins, and else that there is one.
+// Checks, before anything is made, that no file is at this path if a state begins, and that one is if not.
 fn check_state<H: Files>(rt: &H, path: &str, is_new: bool) -> Result<(), WitnessFault> {
     match (rt.symlink_metadata(path), is_new) {
         (Ok(_), true) => Err(state_fault(DeviceFault::Taken)),
@@ -233,8 +234,8 @@ fn witness_at<
     }
 }
 
-/// Serves a witness whose lines are those of a file, where one is given, and else of the input and the output. The file
-/// is compacted first where the options say so.
+/// Serves a witness whose lines are those of a file, if the options name one, or else those of the input and the
+/// output. It compacts the file first, if the options say so.
 pub(crate) fn witness<
     H: Host
         + Files<File = File, Dir: Send + Sync>

@@ -1,10 +1,22 @@
-//! What the program does with its words: it runs the command that they name, tells a fault on standard error, and
-//! ends with a status.
+//! The command line of the program `tlog`: it reads the words, runs the command that they name, reports a fault on
+//! standard error, and returns an exit status.
 //!
-//! ```
+//! `read_words` makes a `Job` of the words, which is a command with its options, or the text on how to call the
+//! program. `run_job` runs it, and `end_run` prints the line of its fault and returns the status. `run_words` does
+//! all of that, and is what a program's `main` calls. The line of a fault names the file, the folder, the bucket or
+//! the address that the options gave. `disk` says what a crash may do to files, and syncs them; `rt` is the system.
+//!
+//! ```rust
 //! // tlog inclusion --index 7, of an input of two lines
+//! let streams = Streams { is_terminal: false, input: None };
 //! let status = run_words(AnyOutcome, &rt, alloc, &words, streams, &mut reader, &mut writer, &mut errors);
-//! assert_eq!(status, 1);
+//! assert_eq!(status, 1); // and `errors` has the line `tlog: bad index`
+//!
+//! // the same, step by step
+//! let job = read_words(alloc, &words)?;
+//! let mut folder = None;
+//! let outcome = run_job(AnyOutcome, &rt, alloc, &job, streams, &mut folder, &mut reader, &mut writer, &mut errors);
+//! let status = end_run(alloc, &job, outcome, &mut errors);
 //! ```
 #![tactic(auto)]
 

@@ -1,4 +1,4 @@
-//! What the options of a job name, of which a fault may speak.
+//! What the options of a job name, for the line of a fault.
 
 ghost use Rattle.std.specs.Prelude.{◌≡◌, option_map};
 ghost use Rattle.tl_cli.specs.Named.{address_of, base_of, credentials_of, file_of, key_file, key_option, listed_file, log_of, logs_file, new_key_of, source_of, state_of, text_at, witness_address, witness_file};
@@ -8,7 +8,7 @@ use tl_fetch::Address;
 use tl_run::{LogKey, Place};
 use tl_serve::{KnownLogs, WitnessSignerKey};
 
-// The file of a log's key.
+// Returns the file of a log's key.
 fn key_file(key: &LogKey) -> Option<&str>
     ensures { option_map (λ s. s.now) result ≡ key_file key.now }
 {
@@ -18,7 +18,7 @@ fn key_file(key: &LogKey) -> Option<&str>
     }
 }
 
-// The file of a witness's key.
+// Returns the file of a witness's key.
 fn witness_file(key: &WitnessSignerKey) -> Option<&str>
     ensures { option_map (λ s. s.now) result ≡ witness_file key.now }
 {
@@ -28,7 +28,7 @@ fn witness_file(key: &WitnessSignerKey) -> Option<&str>
     }
 }
 
-// The file of a key or of a checkpoint that the options name.
+// Returns the file of a key or of a checkpoint that the options name.
 fn file_of(job: &Job) -> Option<&str>
     ensures { option_map (λ s. s.now) result ≡ file_of job.now }
 {
@@ -44,7 +44,7 @@ fn file_of(job: &Job) -> Option<&str>
     }
 }
 
-// The file of a state that the options name.
+// Returns the file of a state that the options name.
 fn state_of(job: &Job) -> Option<&str>
     ensures { option_map (λ s. s.now) result ≡ state_of job.now }
 {
@@ -56,7 +56,7 @@ fn state_of(job: &Job) -> Option<&str>
     }
 }
 
-// The file of the logs that a witness knows.
+// Returns the file of the logs that a witness knows.
 fn listed_file(logs: &KnownLogs) -> Option<&str>
     ensures { option_map (λ s. s.now) result ≡ listed_file logs.now }
 {
@@ -66,7 +66,7 @@ fn listed_file(logs: &KnownLogs) -> Option<&str>
     }
 }
 
-/// The file of the logs that the options name.
+/// Returns the file of the logs that the options name.
 pub(crate) fn logs_file(job: &Job) -> Option<&str>
     ensures { option_map (λ s. s.now) result ≡ logs_file job.now }
 {
@@ -76,7 +76,7 @@ pub(crate) fn logs_file(job: &Job) -> Option<&str>
     }
 }
 
-/// The folder of a log that the options name, or the address of its bucket.
+/// Returns the folder of a log that the options name, or the address of its bucket.
 pub(crate) fn log_of(job: &Job) -> Option<&str>
     ensures { option_map (λ s. s.now) result ≡ log_of job.now }
 {
@@ -89,7 +89,7 @@ pub(crate) fn log_of(job: &Job) -> Option<&str>
     }
 }
 
-/// The file of the key that signs requests to a bucket.
+/// Returns the file of the key that signs requests to a bucket.
 pub(crate) fn credentials_of(job: &Job) -> Option<&str>
     ensures { option_map (λ s. s.now) result ≡ credentials_of job.now }
 {
@@ -100,7 +100,7 @@ pub(crate) fn credentials_of(job: &Job) -> Option<&str>
     }
 }
 
-// The folder or the address that the options name to fetch from.
+// Returns the folder or the address that the options name to fetch from.
 fn source_of(job: &Job) -> Option<&str>
     ensures { option_map (λ s. s.now) result ≡ source_of job.now }
 {
@@ -111,7 +111,7 @@ fn source_of(job: &Job) -> Option<&str>
     }
 }
 
-/// What the options name for a place.
+/// Returns what the options name for a place.
 pub(crate) fn base_of(job: &Job, place: Place) -> Option<&str>
     ensures { option_map (λ s. s.now) result ≡ base_of job.now place }
 {
@@ -123,7 +123,7 @@ pub(crate) fn base_of(job: &Job, place: Place) -> Option<&str>
     }
 }
 
-/// The file of a new private key that the options name.
+/// Returns the file of a new private key that the options name.
 pub(crate) fn new_key_of(job: &Job) -> Option<&str>
     ensures { option_map (λ s. s.now) result ≡ new_key_of job.now }
 {
@@ -133,7 +133,7 @@ pub(crate) fn new_key_of(job: &Job) -> Option<&str>
     }
 }
 
-// The address at this place.
+// Returns the address with this index.
 fn text_at(texts: &[String], place: u64) -> Option<&str>
     ensures { option_map (λ s. s.now) result ≡ text_at texts.now place }
 {
@@ -143,7 +143,7 @@ fn text_at(texts: &[String], place: u64) -> Option<&str>
     }
 }
 
-// The address of the witness at this place that the options name.
+// Returns the address of the witness with this index that the options name.
 fn witness_address(job: &Job, place: u64) -> Option<&str>
     ensures { option_map (λ s. s.now) result ≡ witness_address job.now place }
 {
@@ -153,7 +153,7 @@ fn witness_address(job: &Job, place: u64) -> Option<&str>
     }
 }
 
-/// The address that the options name.
+/// Returns the address that the options name.
 pub(crate) fn address_of(job: &Job, which: Address) -> Option<&str>
     ensures { option_map (λ s. s.now) result ≡ address_of job.now which }
 {
@@ -163,7 +163,7 @@ pub(crate) fn address_of(job: &Job, which: Address) -> Option<&str>
     }
 }
 
-/// The option that takes the texts of keys, of which one is of no key.
+/// Returns the option that takes the texts of keys, one of which is no key's.
 pub(crate) fn key_option(job: &Job) -> &'static str
     ensures { result.now ≡ key_option job.now }
 {

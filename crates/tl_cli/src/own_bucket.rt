@@ -28,7 +28,7 @@ pub struct BucketOptions {
     pub address: String,
     /// The region of its store.
     pub region: String,
-    /// The file with the key that signs requests; without it the environment has it.
+    /// The file with the key that signs requests; without it, the environment has the key.
     pub credentials: Option<String>,
 }
 
@@ -39,7 +39,7 @@ pub(crate) struct AccessKey {
     secret: String,
 }
 
-// The first line of a text and what follows it, or all of it where no line ends.
+// Returns the first line of a text and what follows it, or all of the text if no line ends.
 fn cut_line(text: &str) -> (&str, &str)
     ensures { IsCut text.entry.now result.0.now result.1.now }
 {
@@ -49,14 +49,14 @@ fn cut_line(text: &str) -> (&str, &str)
     }
 }
 
-// Whether these can be a key's name and its secret, with nothing behind them.
+// Reports whether these can be a key's name and its secret, with nothing behind them.
 fn is_key(id: &str, secret: &str, after: &str) -> bool
     ensures { IsTrue result ↔ (IsOneLine id.now × IsOneLine secret.now × (after.now ≡ [])) }
 {
     is_one_line(id) && is_one_line(secret) && after.is_empty()
 }
 
-// The key that a text of two lines has: its name, and its secret.
+// Returns the key that a text of two lines spells: its name, and its secret.
 fn parse_key(alloc: Global, text: &str) -> Result<Option<AccessKey>, AllocError>
     ensures { IfOk result (λ found. MatchOption found
         ((id secret : Bytes) → IsKeyText text.now id secret → ⊥)
@@ -75,7 +75,7 @@ fn parse_key(alloc: Global, text: &str) -> Result<Option<AccessKey>, AllocError>
     }))
 }
 
-// The key that a file has.
+// Returns the key in a file.
 fn key_in<H: Files>(rt: &H, alloc: Global, path: &str) -> Result<AccessKey, CommandFault>
     ensures { IfOk result (λ key. (text : Bytes)
         × IsKeyText text (string_bytes key.id) (string_bytes key.secret)) }
@@ -95,7 +95,7 @@ fn key_in<H: Files>(rt: &H, alloc: Global, path: &str) -> Result<AccessKey, Comm
     }
 }
 
-// What the environment has under this name.
+// Returns what the environment has under this name.
 fn variable<H: Env>(rt: &H, alloc: Global, name: &str) -> Result<String, CommandFault> {
     match env::var(&(rt, alloc), name) {
         Ok(text) => Ok(text),
@@ -104,8 +104,8 @@ fn variable<H: Env>(rt: &H, alloc: Global, name: &str) -> Result<String, Command
     }
 }
 
-/// The key that signs requests to a bucket: that of the file which the options name, or of the environment's
-/// AWS_ACCESS_KEY_ID and AWS_SECRET_ACCESS_KEY.
+/// Returns the key that signs requests to a bucket: that in the file which the options name, or else that in the
+/// environment's AWS_ACCESS_KEY_ID and AWS_SECRET_ACCESS_KEY.
 pub(crate) fn access_key<H: Files + Env>(
     rt: &H,
     alloc: Global,
@@ -123,7 +123,7 @@ pub(crate) fn access_key<H: Files + Env>(
     })
 }
 
-// A text that no other run has: 16 random bytes in hexadecimal.
+// Returns a text that no other run has: 16 random bytes in hexadecimal.
 fn new_token<H: RandomSource>(rt: &H, alloc: Global) -> Result<String, CommandFault>
     ensures { IfOk result (λ token. IsToken (string_bytes token)) }
 {
@@ -134,7 +134,7 @@ fn new_token<H: RandomSource>(rt: &H, alloc: Global) -> Result<String, CommandFa
     Ok(hex::encode(alloc, bytes)?)
 }
 
-// An address without the slash that may come behind it.
+// Returns an address without the slash at its end, if it has one.
 fn without_slash(address: &str) -> &str
     ensures { (address.now ≡ result.now ++ 47 ∷ []) ⊎ ((address.now ≡ result.now)
         × ((front : Bytes) → address.now ≡ front ++ 47 ∷ [] → ⊥)) }
@@ -145,7 +145,7 @@ fn without_slash(address: &str) -> &str
     }
 }
 
-/// What reaches the bucket that the options name, with this key.
+/// Returns a client of the bucket that the options name, with this key.
 pub(crate) fn client_of<'b, H>(
     rt: &'b H,
     alloc: Global,
@@ -170,7 +170,7 @@ pub(crate) fn client_of<'b, H>(
     Ok(Client::new(rt, alloc, url, credential))
 }
 
-/// The bucket of a log as a shelf. If it is new, none may be there yet, and else there has to be one.
+/// Opens the bucket of a log as a shelf. If the log is new, no log may be there yet; otherwise one has to be.
 pub(crate) fn open_bucket<
     'b,
     D: CrashOutcome + Drop,
@@ -194,7 +194,7 @@ pub(crate) fn open_bucket<
     }
 }
 
-/// How a command ended that worked on a bucket: where the bucket failed in a way of its own, that is told.
+/// Returns the outcome of a command that worked on a bucket, with the bucket's own fault if it had one.
 pub(crate) fn after_bucket<D: CrashOutcome + Drop, H: Net<Stream = TcpStream> + Clock>(
     shelf: &BucketShelf<'_, D, H>,
     outcome: Result<(), RunFault>,

@@ -11,7 +11,7 @@ use tl_folder::{CrashOutcome, FolderLock, FolderShelf, has_log, lock_folder};
 use tl_ledger::Found;
 use tl_run::{Place, RunFault};
 
-/// The folder of a log, where no other process works as long as this lasts, and what was read of the log that was found
+/// The folder of a log, which no other process works on while this lasts, and what was read of the log that was found
 /// there. Contracts see the path under which it was locked, and its calls so far.
 #[derive(Drop)]
 pub struct OwnFolder<D, H> {
@@ -28,13 +28,13 @@ impl<D, H> Model for OwnFolder<D, H> {
     ghost view = { λ f. record { locked = f.lock.place; shelf = f.shelf; found = f.found } };
 }
 
-// That the folder of a log failed.
+// Returns the fault of a log's folder.
 fn folder_fault(fault: DeviceFault) -> RunFault {
     RunFault::of_device(Place::Log(None), fault)
 }
 
-/// Checks that a log is in the folder at this path, if none begins there: nothing is made or locked before.
-/// `NothingThere`: there is none.
+/// Checks, before anything is made or locked, that a log is in the folder at this path, unless one begins there. It
+/// fails with `NothingThere` if there is none.
 pub(crate) fn check_log<H: Files>(
     rt: &H,
     alloc: Global,
@@ -51,7 +51,7 @@ pub(crate) fn check_log<H: Files>(
     }
 }
 
-/// The folder of a log as a shelf. It is made where it isn't there.
+/// Opens the folder of a log as a shelf, and makes it if it isn't there.
 pub(crate) fn open_folder<D: CrashOutcome + Drop, H: Files + Drop>(
     disk: D,
     rt: H,
@@ -67,8 +67,9 @@ pub(crate) fn open_folder<D: CrashOutcome + Drop, H: Files + Drop>(
     }
 }
 
-/// The folder at this path, which no other process works on as long as the lock lasts. It is made where it isn't there.
-/// `Busy`: another process has it. `Moved`: another folder came to the path meanwhile.
+/// Opens the folder at this path, which no other process works on while the lock lasts, and makes it if it isn't
+/// there. It fails with `Busy` if another process has it, and with `Moved` if another folder came to the path
+/// meanwhile.
 pub(crate) fn own_folder<D: CrashOutcome + Drop, H: Files<File = File> + Copy + Drop>(
     disk: D,
     rt: &H,

@@ -1,4 +1,4 @@
-//! The file of what a log proposes, which lies in its folder.
+//! The file in a log's folder with what the log proposes.
 
 ghost use Rattle.std.specs.Prelude.{◌≡◌};
 
@@ -12,18 +12,18 @@ use tl_run::{Place, RunFault};
 // The most bytes of a note.
 const MOST: u64 = 65_536;
 
-/// The path of the file, by that of the folder.
+/// Returns the path of the file in this folder.
 pub(crate) fn proposal_path(alloc: Global, dir: &str) -> Result<String, AllocError> {
     let dir = dir.strip_suffix('/').unwrap_or(dir);
     Ok(format!(in alloc; "{dir}/proposal")?)
 }
 
-// That the file failed.
+// Returns the fault of the file.
 fn refusal(fault: DeviceFault) -> RunFault {
     RunFault::of_device(Place::Log(None), fault)
 }
 
-// The note that these bytes are.
+// Returns the note that these bytes are.
 fn note_of(bytes: Vec<u8>) -> Result<String, RunFault> {
     match String::from_utf8(bytes) {
         Ok(note) => Ok(note),
@@ -31,7 +31,7 @@ fn note_of(bytes: Vec<u8>) -> Result<String, RunFault> {
     }
 }
 
-/// The file at a path, as a log reads it that proposes nothing itself.
+/// The file at a path, as read by a log that proposes nothing itself.
 #[derive(Drop)]
 pub(crate) struct ReadProposal<'s, H> {
     pub(crate) rt: &'s H,
@@ -62,7 +62,7 @@ impl<H: Files> ProposalStore for ReadProposal<'_, H> {
 pub(crate) struct ProposalFile<'s, H: Files>(AtomicFile<'s, H>);
 
 impl<'s, H: Files<File = File>> ProposalFile<'s, H> {
-    /// The file at this path, whether it is there or not.
+    /// Opens the file at this path, whether it is there or not.
     pub(crate) fn open(
         rt: &'s H,
         alloc: Global,

@@ -1,4 +1,4 @@
-//! From words to the command that they name, and from how it ended to an exit status.
+//! Runs the command that words name, and returns an exit status for its outcome.
 
 ghost use Rattle.std.specs.Prelude.{◌≡◌, codes, option_map, string_bytes};
 ghost use Rattle.tl_text.specs.Text.{line};
@@ -44,7 +44,7 @@ use tl_key::{Cosignature, Note};
 use tl_run::{HmacLogSigner, RunFault, read_file};
 use tl_serve::Host;
 
-// How many threads hash at once: as many as are asked for, or else as the machine has.
+// Returns how many threads hash at once: as many as are asked for, or else as the machine has.
 fn threads_of<H: Threads>(rt: &H, asked: Option<u16>) -> usize {
     if let Some(count) = asked {
         return usize::from(count);
@@ -55,7 +55,7 @@ fn threads_of<H: Threads>(rt: &H, asked: Option<u16>) -> usize {
     }
 }
 
-// Hashes the input's lines.
+// Prints the checkpoint of the log of the input's lines.
 fn head<H: Threads + Sync, R: Read, W: Write>(
     rt: &H,
     alloc: Global,
@@ -93,7 +93,7 @@ fn inclusion<H: Threads + Sync, R: Read, W: Write>(
     )
 }
 
-// Proves that the log of the input's lines goes on from its first ones.
+// Proves that the log of the input's lines extends that of its first ones.
 fn consistency<H: Threads + Sync, R: Read, W: Write>(
     rt: &H,
     alloc: Global,
@@ -174,10 +174,9 @@ fn build_signed<H: Files + Threads + Sync, R: Read, W: Write>(
     )
 }
 
-/// Runs the command of a job with its options: each job its own command, which reads the reader and writes the writer.
-/// `keygen`, `serve`, `witness` and `feed` write to `errors` too, and so does `fetch` where that is a terminal. The
-/// folder of a log that `append` or `serve` had to itself is then in `folder`, locked until it is dropped. The servers
-/// may wait.
+/// Runs the command of a job with its options on the reader and the writer. `keygen`, `serve`, `witness` and `feed`
+/// write to `errors` too, and `fetch` does if that is a terminal. Afterwards `folder` has the folder of a log that
+/// `append` or `serve` had to itself, which stays locked until it is dropped. The servers may wait.
 pub fn run_job<
     D: CrashOutcome + PutsTogether + Copy + Send + Drop,
     H: Host
@@ -236,8 +235,8 @@ pub fn run_job<
 }
 
 /// Runs the command that the words name, the program's own name first, and returns the exit status. If the words name
-/// none, the text on how to call the program is written to `errors`, the status is 2, and nothing is read or written
-/// else. `@FILE` in the place of a public key stands for the text of that file; if it can't be read, that is reported.
+/// none, it prints the text on how to call the program to `errors` and returns 2, with nothing else read or written.
+/// `@FILE` in place of a public key stands for the text of that file; if the file can't be read, that is reported.
 pub fn run_words<
     D: CrashOutcome + PutsTogether + Copy + Send + Drop,
     H: Host
@@ -293,8 +292,8 @@ pub fn run_words<
     }
 }
 
-/// Ends a run of which no command came, since memory was refused: that is written to `errors`, and the answer is the
-/// exit status.
+/// Ends a run before there was a command, because memory ran out: it prints that to `errors`, and returns the exit
+/// status.
 pub fn end_early<E: Write>(errors: &mut Counted<E>) -> u8
     ensures status { result ≡ 1 }
     ensures told { Told (line (codes "tlog: out of memory"))
@@ -304,8 +303,8 @@ pub fn end_early<E: Write>(errors: &mut Counted<E>) -> u8
     1
 }
 
-/// Ends a run of a job's command: a fault's line is written to `errors`, if it has one and there is memory for it, and
-/// the answer is the exit status: 0 where all was done, and else the fault's.
+/// Ends a run of a job's command and returns the exit status: 0 if it succeeded, else the fault's. It prints the line
+/// of the fault to `errors`, if the fault has one and memory for it can be allocated.
 pub fn end_run<A: Allocator + Copy, E: Write>(
     alloc: A,
     job: &Job,

@@ -27,7 +27,7 @@ use tl_serve::{
     run_serve_shelf, threads_of,
 };
 
-// So many shelves of the folder at this path, for threads that read there.
+// Returns this many shelves of the folder at this path, for threads that read there.
 fn shown_of<D: CrashOutcome + Copy + Drop, H: Files + Copy + Drop>(
     disk: D,
     rt: &H,
@@ -42,7 +42,7 @@ fn shown_of<D: CrashOutcome + Copy + Drop, H: Files + Copy + Drop>(
     Ok(shown)
 }
 
-// Serves the log in a folder, which is shown as it is signed.
+// Serves the log in a folder, and shows each checkpoint as soon as it is signed.
 fn serve_signed<
     D: CrashOutcome + Copy + Send + Drop,
     H: Host
@@ -78,7 +78,7 @@ fn serve_signed<
     Served { shelf, outcome }
 }
 
-// Serves the log in a folder, which is shown once enough witnesses have cosigned it.
+// Serves the log in a folder, and shows each checkpoint once enough witnesses have cosigned it.
 fn serve_cosigned<
     D: CrashOutcome + Copy + Send + Drop,
     H: Host
@@ -130,7 +130,7 @@ fn serve_cosigned<
     run_serve_cosigned(rt, alloc, options, site, log, found, reader, errors)
 }
 
-// Serves the log in a folder by its options.
+// Serves the log in a folder as its options say.
 fn serve_folder<
     D: CrashOutcome + Copy + Send + Drop,
     H: Host
@@ -175,7 +175,7 @@ fn serve_folder<
     }
 }
 
-/// Serves a log that is in the folder at this path, where no other process works meanwhile.
+/// Serves a log in the folder at this path, which no other process may work on meanwhile.
 pub(crate) fn serve_at<
     D: CrashOutcome + Copy + Send + Drop,
     H: Host

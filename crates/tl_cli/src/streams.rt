@@ -1,12 +1,12 @@
-//! What a command has to know of the standard streams beside their bytes.
+//! What a command knows of the standard streams besides their bytes.
 
 use std::os::fd::RawFd;
 
 /// What is known of the standard streams.
 #[derive(Clone, Copy, Debug)]
 pub struct Streams {
-    /// Whether standard error goes to a terminal.
+    /// Whether standard error is a terminal.
     pub is_terminal: bool,
-    /// The descriptor of standard input, where there is one to wait for.
+    /// The descriptor of standard input, if it can be waited for.
     pub input: Option<RawFd>,
 }

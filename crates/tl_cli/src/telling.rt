@@ -25,7 +25,7 @@ use tl_serve::WitnessFault;
 use tl_source::place_of;
 use tl_tile::Resource;
 
-// Which resource a place is, if it is one.
+// Returns the resource of a place, if it has one.
 fn resource_of(place: Place) -> Option<Resource>
     ensures { result ≡ resource_of place }
 {
@@ -36,7 +36,7 @@ fn resource_of(place: Place) -> Option<Resource>
     }
 }
 
-// Where that is: the resource under what the options name, or that itself.
+// Returns the path of the resource under `base`, or `base` itself if there is no resource or it has no path.
 fn where_is<A: Allocator + Copy>(
     alloc: A,
     base: &str,
@@ -53,7 +53,7 @@ fn where_is<A: Allocator + Copy>(
     }
 }
 
-// The line of a fault that is told in these words over what is there.
+// Returns the line of a fault with these words, at this path.
 fn line_at<A: Allocator>(alloc: A, path: &str, words: &str) -> Result<String<A>, AllocError>
     ensures { IfOk result (λ text. string_bytes text
         ≡ line (codes "tlog: " ++ path.now ++ codes ": " ++ words.now)) }
@@ -66,7 +66,7 @@ fn line_at<A: Allocator>(alloc: A, path: &str, words: &str) -> Result<String<A>,
     Ok(line)
 }
 
-// The line of a fault over a place.
+// Returns the line of a fault at a place.
 fn place_line<A: Allocator + Copy>(
     alloc: A,
     job: &Job,
@@ -84,7 +84,7 @@ fn place_line<A: Allocator + Copy>(
     line_at(alloc, path.as_str(), words)
 }
 
-// A line with its newline, or no text.
+// Returns a line with its newline, or no text.
 fn whole_line<A: Allocator + Copy>(
     alloc: A,
     line: Option<String<A>>,
@@ -99,7 +99,7 @@ fn whole_line<A: Allocator + Copy>(
     Ok(line)
 }
 
-// The line that reports that nothing is there that could be gone on from.
+// Returns the line which says that there is nothing to go on from.
 fn nothing_line<A: Allocator + Copy>(
     alloc: A,
     job: &Job,
@@ -112,7 +112,7 @@ fn nothing_line<A: Allocator + Copy>(
     place_line(alloc, job, place, words.as_str())
 }
 
-// What is told of a fault that other commands have, too: its line, if it has one.
+// Returns the line of a fault that other commands have, too, if it has one.
 fn run_line<A: Allocator + Copy>(
     alloc: A,
     job: &Job,
@@ -133,7 +133,7 @@ fn run_line<A: Allocator + Copy>(
     }
 }
 
-// The line of a fault over the file of the logs.
+// Returns the line of a fault of the file of the logs.
 fn logs_line<A: Allocator>(alloc: A, job: &Job, words: &str) -> Result<String<A>, AllocError>
     ensures { IfOk result (λ text. string_bytes text ≡ logs_line (logs_file job.now) words.now) }
 {
@@ -143,7 +143,7 @@ fn logs_line<A: Allocator>(alloc: A, job: &Job, words: &str) -> Result<String<A>
     }
 }
 
-// What is told of a fault of `witness`: its line, if it has one.
+// Returns the line of a fault of `witness`, if it has one.
 fn witness_line<A: Allocator + Copy>(
     alloc: A,
     job: &Job,
@@ -164,7 +164,7 @@ fn witness_line<A: Allocator + Copy>(
     }
 }
 
-// The line of a fault of a bucket.
+// Returns the line of a fault of a bucket.
 fn bucket_line<A: Allocator + Copy>(
     alloc: A,
     job: &Job,
@@ -177,7 +177,7 @@ fn bucket_line<A: Allocator + Copy>(
     place_line(alloc, job, Place::Log(None), words.as_str())
 }
 
-// The line of a fault over the key that signs requests to a bucket.
+// Returns the line of a fault of the key that signs requests to a bucket.
 fn credentials_line<A: Allocator + Copy>(
     alloc: A,
     job: &Job,
@@ -196,7 +196,7 @@ fn credentials_line<A: Allocator + Copy>(
     line_at(alloc, path, words.as_str())
 }
 
-// The line of a fault over a file of a new key.
+// Returns the line of a fault of a file of a new key.
 fn key_line<A: Allocator + Copy>(
     alloc: A,
     job: &Job,
@@ -219,14 +219,14 @@ fn key_line<A: Allocator + Copy>(
     }
 }
 
-// Whether an address is one over TLS.
+// Reports whether an address is one over TLS.
 fn is_secure(address: &str) -> bool
     ensures { result ≡ is_secure address.now }
 {
     address.as_bytes().starts_with(b"https://")
 }
 
-// Why an address is none, which may be one over TLS.
+// Returns the words for an address that isn't accepted, which may be one over TLS.
 fn address_words(is_secure: bool) -> &'static str
     ensures { result.now ≡ address_words is_secure }
 {
@@ -237,7 +237,7 @@ fn address_words(is_secure: bool) -> &'static str
     }
 }
 
-// The line of an address that is none.
+// Returns the line of an address that isn't accepted.
 fn address_line<A: Allocator>(alloc: A, job: &Job, which: Address) -> Result<String<A>, AllocError>
     ensures { IfOk result
         (λ text. string_bytes text ≡ address_line (address_of job.now which)) }
@@ -248,7 +248,7 @@ fn address_line<A: Allocator>(alloc: A, job: &Job, which: Address) -> Result<Str
     }
 }
 
-// What is told of a fault of a job: its line, if it has one.
+// Returns the line of a fault of a job, if it has one.
 fn line_of<A: Allocator + Copy>(
     alloc: A,
     job: &Job,
@@ -268,14 +268,14 @@ fn line_of<A: Allocator + Copy>(
     }
 }
 
-// Writes a text, as far as that goes.
+// Writes a text, as much of it as the writer takes.
 fn write_text<E: Write>(errors: &mut Counted<E>, text: &str)
     ensures { Wrote text.now (passage E.contents errors.old errors.new) }
 {
     let _ = write_whole(errors, text.as_bytes());
 }
 
-/// Tells a fault of a job: writes its line, if it has one and there is memory for it.
+/// Prints the line of a fault of a job, if the fault has one and memory for it can be allocated.
 pub(crate) fn tell<A: Allocator + Copy, E: Write>(
     alloc: A,
     job: &Job,

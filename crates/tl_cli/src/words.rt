@@ -7,7 +7,7 @@ use std::alloc::{AllocError, Global};
 use thiserror::Error;
 use tl_command::HeadOptions;
 
-// The words of a command, one a row: its name, what help calls its value, what stands behind it, and its help.
+// The words of a command, one a row: its name, what help calls its value, what its value may be, and its help.
 macro_rules! words {
     ($($name:literal $value:literal $kind:expr => $help:expr;)*) => {
         &[$(Word { name: $name, value: $value, kind: $kind, help: $help }),*]
@@ -28,13 +28,13 @@ mod witnessing;
 
 use table::{Words, command_of};
 
-// What is said where not one of two options is given.
+// The message if not exactly one of two options is given.
 const EITHER_KEY: &str = "either --secret or --key is given";
 
 // The help of the option that takes a log's verifier key.
 const LOG_KEY: &str = "The log's verifier key, or @FILE";
 
-// The same if a log may have two.
+// The help of that option if a log may have two keys.
 const LOG_KEYS: &str = "The log's verifier key, or @FILE; given twice for two";
 
 // The help of the words for the keys of witnesses.
@@ -43,7 +43,7 @@ const WITNESS_KEY: &str = "The verifier key of a witness, or @FILE";
 // The help of the option that says how many threads hash.
 const THREADS: &str = "How many threads hash at once (default: all processors)";
 
-// The seconds of a time limit that is left out.
+// The seconds of a time limit that isn't given.
 const TIMEOUT: u64 = 10;
 
 // The program's version. The formats that it reads and writes have versions of their own.
@@ -55,7 +55,7 @@ pub enum WordsFault {
     /// The words aren't understood, or ask for help: the text to show.
     #[error("{0}")]
     Usage(String),
-    /// A growth was refused.
+    /// Memory ran out.
     #[error("out of memory")]
     OutOfMemory,
 }
@@ -66,7 +66,7 @@ impl From<AllocError> for WordsFault {
     }
 }
 
-// The fault of a command line that was not understood.
+// Returns the fault of a command line that isn't understood.
 fn fault_of(alloc: Global, error: ClapError) -> WordsFault {
     if matches!(error.kind(), ErrorKind::OutOfMemory) {
         return WordsFault::OutOfMemory;
@@ -77,7 +77,7 @@ fn fault_of(alloc: Global, error: ClapError) -> WordsFault {
     }
 }
 
-// The program without its commands.
+// Returns the program without its commands.
 fn program<'a>(alloc: Global) -> Command<'a> {
     Command::new(alloc, "tlog")
         .version(VERSION)
@@ -122,7 +122,7 @@ const COMMANDS: &[Named] = &[
     Named::Feed,
 ];
 
-// The words of a command.
+// Returns the words of a command.
 fn words_of(command: Named) -> &'static Words {
     match command {
         Named::Head => proving::head(),
@@ -141,7 +141,7 @@ fn words_of(command: Named) -> &'static Words {
     }
 }
 
-// The program with its commands.
+// Returns the program with its commands.
 fn with_commands<'a>(alloc: Global) -> Result<Command<'a>, AllocError> {
     let mut program = program(alloc);
     for command in COMMANDS {
@@ -150,7 +150,7 @@ fn with_commands<'a>(alloc: Global) -> Result<Command<'a>, AllocError> {
     Ok(program)
 }
 
-// The job of a command with these options.
+// Returns the job of a command with these options.
 fn job_of(alloc: Global, command: &str, options: &ArgMatches<'_>) -> Result<Job, WordsFault> {
     match command {
         "head" => Ok(Job::Head(HeadOptions {
@@ -181,7 +181,7 @@ fn job_of(alloc: Global, command: &str, options: &ArgMatches<'_>) -> Result<Job,
     }
 }
 
-// The words that ask for the help of what `help` names: the program's name, the others, and `--help`.
+// Returns the words that ask for the help of what `help` names: the program's name, the other words, and `--help`.
 fn help_words(alloc: Global, program: &str, names: &[String]) -> Result<Vec<String>, AllocError> {
     let mut asked = Vec::new(alloc);
     asked.push(String::from_str(alloc, program)?)?;
@@ -192,7 +192,7 @@ fn help_words(alloc: Global, program: &str, names: &[String]) -> Result<Vec<Stri
     Ok(asked)
 }
 
-// The job that prints the help that these words ask for.
+// Returns the job that prints the help for these words.
 fn help_of(alloc: Global, asked: &[String]) -> Result<Job, WordsFault> {
     let program = with_commands(alloc)?;
     match program.try_get_matches_from(asked) {
@@ -204,15 +204,15 @@ fn help_of(alloc: Global, asked: &[String]) -> Result<Job, WordsFault> {
     }
 }
 
-// The job of `help`, with the names of a command.
+// Returns the job of `help` with the names of a command.
 fn help_job(alloc: Global, program: &str, names: &[String]) -> Result<Job, WordsFault> {
     let asked = help_words(alloc, program, names)?;
     help_of(alloc, asked.as_slice())
 }
 
-/// The job that the words ask for, the first of which is the program's name; `--version` is a job, and so is `help`,
-/// with the name of a command or without. Words that are no command of the program with its options, and `--help`, are
-/// `Usage`.
+/// Returns the job that the words ask for. The first word is the program's name. `--version` is a job, and so is
+/// `help`, with or without the name of a command. It fails with `Usage`, which has the text to print, on `--help` and
+/// on words that are no command of the program with its options.
 pub fn read_words(alloc: Global, words: &[String]) -> Result<Job, WordsFault> {
     match words {
         [program, first, names @ ..] if first.as_str() == "help" => {

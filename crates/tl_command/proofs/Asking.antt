@@ -1,4 +1,4 @@
--- Where a command asks for memory: something was read, or something is printed of nothing.
+-- When a command allocates: something was read, or something is printed for an empty input.
 use Rattle.std.proofs.Common.{◌≡◌, ℕ, suc, ◌+◌, ◌<◌, ◌≤◌, inl, inr, List, [], ◌∷◌, length, None, refl, sym, ap, ◌∙◌, arith, Some}
 use Rattle.std.proofs.lemmas.Bool.{cases_lt}
 use Rattle.std.specs.Prelude.{Err}
@@ -37,7 +37,7 @@ gave_entry p most entries read some = (read.input, read.whole.consumed, lines_so
 pub gave_line : (p : Passage) (most : ℕ) (input : List ℕ) → ReadWhole p most input → 0 < length (entries_of input) → GaveSome p
 gave_line p most input whole some = (input, whole.consumed, lines_some input some)
 
--- a consistency proof is printed of no lines where the old size is 0
+-- a consistency proof is printed for no lines if the old size is 0
 pub asks_of_old : (old : ℕ) (p : Passage) (most : ℕ) (input : List ℕ) → ReadWhole p most input → old ≤ length (entries_of input) → IsAsking (ConsistencyComes old) p
 asks_of_old old p most input whole within =
     elim (cases_lt 0 old) as (λ _. IsAsking (ConsistencyComes old) p) [
@@ -45,7 +45,7 @@ asks_of_old old p most input whole within =
       | inr none ↦ inr (consistency_text (consistency_of old (entries_of [])), (none_too_long, omega (arith, none), refl))
     ]
 
--- a checkpoint is printed of any input
+-- a checkpoint is printed for any input
 pub asks_of_head : (origin : List ℕ) (p : Passage) → IsAsking (HeadComes origin) p
 asks_of_head origin p = inr (head_text origin (entries_of []), (none_too_long, refl))
 

@@ -11,7 +11,7 @@ use Rattle.tl_command.specs.Lines.{first_too_long, is_too_long}
 use Rattle.tl_tile.specs.declared.bundle.BundleFault.{BundleFault}
 use Rattle.tl_tile.specs.declared.bundle.BundleFault.TheVariants.{EntryTooLong, Truncated, Trailing, OutOfMemory}
 
--- entries that are not too long fail for want of memory alone
+-- writing entries that are not too long fails only if allocation fails
 pub short_fault : (A : Type 0) (entries : List (List ℕ)) (fault : BundleFault) → AreShortEntries entries → WritesBundle {A = A} entries (Err fault) → fault ≡ OutOfMemory
 short_fault A entries EntryTooLong short (k, entry, less, at, long) =
     let here : IsShortEntry entry = subst IsShortEntry at (All-get_or IsShortEntry entries k entry less short) in
@@ -20,7 +20,7 @@ short_fault A entries Truncated short given = absurd given
 short_fault A entries Trailing short given = absurd given
 short_fault A entries OutOfMemory short given = refl
 
--- where no entry is the first that is too long, none is
+-- if no entry is the first that is too long, none is
 pub none_too_long : (entries : List (List ℕ)) → first_too_long entries ≡ None → AreShortEntries entries
 none_too_long entries none = λ k d lt.
     elim (cases_lt (position_or_len is_too_long entries) (length entries)) as (λ _. IsShortEntry (get_or entries k d)) [

@@ -1,4 +1,4 @@
--- What `check` says of a proof is what is to come of its text.
+-- What `check` says of a proof is the output for its text.
 use Rattle.std.proofs.Common.{◌≡◌, inl, inr, List, ℕ, refl, sym, ap, ◌∙◌, subst, true≢false}
 use Rattle.std.specs.Prelude.{◌↔◌, Bool, true, false, IsTrue, Result, Ok, Err}
 use Rattle.tl_device.specs.Device.{Passage, ReadWhole}
@@ -11,7 +11,7 @@ use Rattle.tl_command.specs.declared.commands.check.Finding.{Finding}
 use Rattle.tl_run.specs.declared.fault.RunFault.{RunFault}
 use Rattle.tl_run.specs.declared.fault.RunFault.TheVariants.{Refused, Read, Write, TooLarge, EntryTooLong, BadOrigin, BadIndex, BadOld, BadPath, NotThere, Malformed, Chain, Sign, Operator, Listen, Accept, OutOfMemory, BadName, BadKey, BadCheckpoint, WrongSignature, Unverified, Device, BadKeyFile, NothingThere}
 
--- what is to come of a text that was read, where what was found tells whether its proof is good
+-- the output for a text that was read, if the finding says whether its proof is good
 abbrev pub good_output : Bool → Output
 good_output true = Prints (answer_line true)
 good_output false = PrintsRefusal (answer_line false)
@@ -33,14 +33,14 @@ good_comes IsGood i input text c false whole same said means =
       so = (record { proof = has.proof; lawful = has.lawful; spelled = sym same ∙ said.1 ∙ ap lines_text has.spelled; fact = λ good. true≢false (sym ((means has.proof has.finding).1 good)) }, refl);
     }
 
--- what was found is about a subject where its proof is
+-- a finding is about a subject if its proof is
 pub about_means : (s : Subject) (c : Finding) (is_good : Bool) → (IsTrue is_good ↔ IsFindingAbout s c) → (p : Proof) → IsFinding p c → IsTrue is_good ↔ IsAbout s p
 about_means s c is_good found p is = (
   (λ good. let f = found.0 good in (is.says.0 f.0, record { same_size = sym is.size ∙ f.1.same_size; same_root = sym is.root ∙ f.1.same_root; shown = subst (Shows s.entry) is.leaf f.1.shown })),
   (λ about. found.1 (is.says.1 about.0, record { same_size = is.size ∙ about.1.same_size; same_root = is.root ∙ about.1.same_root; shown = subst (Shows s.entry) (sym is.leaf) about.1.shown })),
 )
 
--- a run prints the answer that is to come of its input
+-- a run prints the output for its input
 pub answered : (Comes : List ℕ → Output → Type 0) (i o : Passage) (is_good : Bool) (result : Result (Unit {0}) RunFault) → CameOf Comes i (good_output is_good)
     → PrintsAnswer is_good o result → Runs Comes i o result
 answered Comes i o true (Ok done) came prints = record { text = answer_line true; came = came; written = prints.1 }

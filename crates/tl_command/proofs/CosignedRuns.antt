@@ -132,7 +132,7 @@ printed_as key i o input note message text r same whole is spelled =
       so = subst (IsMessageOf key input) (sym spelled) (subst (λ (n : Bytes). IsMessageOf key n message) same is);
     })
 
--- a run under a witness's key, which asks for memory for the key, too
+-- a run under a witness's key, which allocates for the key, too
 runs_cosigned : (key : Key) (i o : Passage) (r : Result (Unit {0}) RunFault) → Runs (CosignedComes key) i o r → OpensCosigned key i o r
 runs_cosigned key i o (Ok done) runs = runs
 runs_cosigned key i o (Err Refused) runs = runs
@@ -166,7 +166,7 @@ pub runs_by_witness : (key : Key) (text : Bytes) (k : PublicKey) (i o : Passage)
 runs_by_witness key text k i o r spelled same runs =
     inl (k, spelled, subst (λ (v : Key). OpensCosigned v i o r) same (runs_cosigned key i o r runs))
 
--- there is no memory for the key
+-- allocation for the key failed
 pub cosigner_fails : (text : Bytes) (i o : Passage) (fault : RunFault) (k : PublicKey) → IsUnread i → IsUnwritten o → fault ≡ OutOfMemory → IsVerifierText cosignature_kind text k
     → RunsOpen text i o (Err fault)
 cosigner_fails text i o fault k unread none told spelled =

@@ -20,7 +20,7 @@ use Rattle.tl_command.proofs.WholeLines.{IsShort, each_short, line_ends, none_lo
 
 -- ---- counting
 
--- so many lines of a text stand before the rest, and none of them is too long
+-- this many lines of a text stand before the rest, and none of them is too long
 pub record IsCounted (text rest : List ℕ) (count : ℕ) : Type 0 where
   pub front : List (List ℕ)
   pub whole : entries_of text ≡ front ++ entries_of rest
@@ -154,7 +154,7 @@ pub short_none : (entries : List (List ℕ)) → AreShortEntries entries → fir
 short_none entries short =
     none_longer entries [] refl (All-weaker IsShortEntry IsShort (λ entry fits. le-ltb 65535 (length entry) (omega (arith, fits))) entries short)
 
--- their edge isn't known for want of memory alone
+-- if their edge isn't known, memory ran out
 pub edge_memory : (lines : List (List ℕ)) (fault : RunFault) → AreShortEntries lines → IsEdgeFault lines fault → fault ≡ OutOfMemory
 edge_memory lines (EntryTooLong place) short given = let bad : None ≡ Some place = sym (short_none lines short) ∙ given in absurd cc
 edge_memory lines OutOfMemory short given = refl

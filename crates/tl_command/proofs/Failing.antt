@@ -1,4 +1,4 @@
--- Runs that end before their input is answered: why they fail is what the call that failed says.
+-- Runs that end before their input is answered: the call that failed says why.
 use Rattle.std.proofs.Common.{◌≡◌, ◌∙◌, inl, List, ℕ, sym, subst}
 use Rattle.std.specs.Prelude.{Option, Result, Ok, Err, IsErrAnd}
 use Rattle.tl_hash.specs.Bytes.{Digest}
@@ -27,12 +27,12 @@ use Rattle.tl_run.specs.declared.fault.RunFault.{RunFault}
 use Rattle.tl_run.specs.declared.place.Place.TheVariants.{File}
 use Rattle.tl_run.specs.declared.fault.RunFault.TheVariants.{Refused, Read, Write, TooLarge, EntryTooLong, BadOrigin, BadIndex, BadOld, BadPath, NotThere, Malformed, Chain, Sign, Operator, Listen, Accept, OutOfMemory, BadName, BadKey, BadCheckpoint, WrongSignature, Unverified, Device, BadKeyFile, NothingThere}
 
--- what a call failed with is handed on
+-- the fault of a call is passed on
 pub handed_on : (Holds : Result (Unit {0}) RunFault → Type 0) (r : Result (Unit {0}) RunFault) (given fault : RunFault) → IsErrAnd r (λ e. e ≡ given) → given ≡ fault → Holds (Err fault) → Holds r
 handed_on Holds (Ok done) given fault is same holds = absurd is
 handed_on Holds (Err e) given fault is same holds = subst (λ (f : RunFault). Holds (Err f)) (sym (is ∙ same)) holds
 
--- and where it is the fault itself that is handed on
+-- and if the fault itself is passed on
 pub passed_on : {T : Type 0} (Holds : Result T RunFault → Type 0) (r : Result T RunFault) (fault : RunFault) → IsErrAnd r (λ e. e ≡ fault) → Holds (Err fault) → Holds r
 passed_on Holds (Ok done) fault is holds = absurd is
 passed_on Holds (Err e) fault is holds = subst (λ (f : RunFault). Holds (Err f)) (sym is) holds

@@ -39,7 +39,7 @@ kept_more last part kept is =
           ∙ sym (take-append-add last part (65536 - length last)) ∙ ap (λ (n : ℕ). take n (last ++ part)) sum
     ]
 
--- a line is too long where as much as is kept of one that is too long is there
+-- a line is too long if as many bytes are there as are kept of a line that is too long
 pub long_tells : (last kept : List ℕ) → kept ≡ take 65536 last → length kept ≡ 65536 → is_too_long last ≡ true
 long_tells last kept is full =
     elim (cases_lt 65535 (length last)) as (λ _. is_too_long last ≡ true) [
@@ -54,7 +54,7 @@ short_tells last kept is apart =
       | inr short ↦ (le-ltb 65535 (length last) short, is ∙ take_all 65536 last (omega (arith, short)))
     ]
 
--- where no line was too long, and one line more
+-- if no line was too long, and one line more follows
 pub at_none : (place count : ℕ) → cond (nat_lt place count) (Some place) None ≡ None → place ≤ count → place ≡ count
 at_none place count e within =
     elim (cases_lt place count) as (λ _. place ≡ count) [
@@ -134,14 +134,14 @@ nothing_kept (b ∷ last) e =
 abbrev pub IsOther : ℕ → Type 0
 IsOther byte = byte ≢ 10
 
--- so many bytes were consumed, and taken
+-- this many bytes were consumed and taken
 pub record HasRead {A : Type 0} (old new : Option (List ℕ)) (g : Growing A) (total : ℕ) : Type 0 where
   pub input : List ℕ
   pub count : length input ≡ total
   pub consumed : Consumes old new input
   pub growing : IsGrowing g input
 
--- what is told, by whether a line was too long
+-- what is known of the lines, by whether one was too long
 pub told_none : (place : Option ℕ) (P : Type 0) (Q : ℕ → Type 0) → place ≡ None → P → MatchOption place P Q
 told_none place P Q e holds = rw e holds
 
@@ -173,7 +173,7 @@ same_entries lines last input plain last_plain e some =
 pub none_found : (s : List ℕ) → ((j : ℕ) → 0 ≤ j → j < length s → (get_or s j 0 == 10) ≡ true → ⊥) → HasNoNewline s
 none_found s none k d lt e = none k (omega arith) lt (eq-eqb (get_or s k 0) 10 (get_or_default s k 0 d lt ∙ e))
 
--- what is told of the entries of a whole input that was read
+-- what is known of the entries of a whole input that was read
 pub reads_edge : (p : Passage) (input : List ℕ) (result : Result EdgeContents RunFault) → ReadWhole p most_input input → IsOutcome (entries_of input) result → ReadsEdge p result
 reads_edge p input (Ok edge) read so = record { input = input; whole = read; short = so.0; stands = so.1 }
 reads_edge p input (Err Refused) read so = absurd so

@@ -18,7 +18,7 @@ use Rattle.tl_command.proofs.NeededParts.{LiesIn, lies}
 
 -- ---- one bundle
 
--- each entry has two bytes in its bundle where its line has a newline
+-- each entry has two bytes more in its bundle, and its line a newline
 pub bundle_of_lines : (entries : List (List ℕ)) → length (bundle_text entries) ≡ length (lines_text entries) + length entries
 bundle_of_lines [] = refl
 bundle_of_lines (entry ∷ entries) =

@@ -1,4 +1,5 @@
--- Lines and their text: it is cut back into them, and a text is that of its pieces exactly where it ends with a newline.
+-- Lines and their text: the text is cut back into the lines, and a text is that of its pieces exactly if it ends with
+-- a newline.
 use Rattle.std.proofs.Common.{inl, inr, ◌≡◌, ℕ, suc, ◌<◌, ◌-◌, List, [], ◌∷◌, ◌++◌, length, get_or, refl, sym, ap, ◌∙◌, arith, eq-eqb, All}
 use Rattle.std.specs.Prelude.{◌≢◌, ◌==◌, MatchBool, Some, None, slice_get}
 use Rattle.std.specs.List.{flat_map, onto_first}
@@ -27,7 +28,7 @@ entries_of_lines (text ∷ lines) plain =
     ap entries_of (flat_map-cons line text lines) ∙ entries_of_line text (flat_map line lines) (All-head HasNoNewline text lines plain)
     ∙ ap (λ (es : List (List ℕ)). text ∷ es) (entries_of_lines lines (All-tail HasNoNewline text lines plain))
 
--- the last byte, and a newline where there is none
+-- the last byte, and a newline if there is none
 abbrev last_or : List ℕ → ℕ
 last_or [] = 10
 last_or (b ∷ []) = b
@@ -101,7 +102,7 @@ last_of_lines (text ∷ lines) = ap last_or (flat_map-cons line text lines) ∙ 
 pub not_lines : (text : List ℕ) (byte : ℕ) → Some byte ≡ slice_get text (length text - 1) → byte ≢ 10 → (lines : List (List ℕ)) → text ≢ lines_text lines
 not_lines text byte e other lines is = other (sym (last_of_some text byte e) ∙ ap last_or is ∙ last_of_lines lines)
 
--- whether the last byte is a newline tells
+-- the last byte shows whether the text is lines
 pub last_tells : (text : List ℕ) (byte : ℕ) → Some byte ≡ slice_get text (length text - 1)
     → MatchBool (byte == 10) (text ≡ lines_text (entries_of text)) ((lines : List (List ℕ)) → text ≢ lines_text lines)
 last_tells text byte e =

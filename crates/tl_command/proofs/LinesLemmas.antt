@@ -1,4 +1,4 @@
--- The first entry of an input, by where its newline is.
+-- The first entry of an input, by the place of its newline.
 use Rattle.std.proofs.Common.{inl, inr, ◌≡◌, ◌≢◌, ℕ, zero, suc, ◌+◌, ◌<◌, ◌≤◌, List, [], ◌∷◌, length, take, drop, get_or, cond, Bool, true, refl, sym, ◌∙◌, ap, arith, eq-eqb, add-one, Some, None, ◌-◌}
 use Rattle.std.specs.Prelude.{Option, position, map, nat_lt, vec_items, vec_len, ◌==◌, not}
 use Rattle.std.specs.declared.vec.Vec.{Vec}
@@ -69,7 +69,7 @@ entries_at_found xs k h e n =
     entries_at_newline xs k h (eqb-true _ _ e) (λ j p same. n j (omega arith) p (eq-eqb _ _ same))
     ∙ ap (λ r. take k xs ∷ entries_of r) (sym rest)
 
--- where a search found no newline
+-- if a search found no newline
 pub entries_if_none_found : (xs : List ℕ) → 0 < length xs → ((j : ℕ) → 0 ≤ j → j < length xs → (get_or xs j 0 == 10) ≡ true → ⊥)
     → entries_of xs ≡ xs ∷ entries_of (take (length xs - length xs) (drop (length xs) xs))
 unfolding entries_of

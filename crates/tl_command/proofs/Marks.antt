@@ -40,7 +40,7 @@ mark_after text base end last first next was then =
 
 -- ---- all places
 
--- so many tiles of lines end there
+-- this many tiles of lines end there
 pub marked : (tiles : ℕ) (ends text : List ℕ) (base : ℕ) → AreMarks text base ends → tiles ≤ length ends → IsMark text base (get_or (base ∷ ends) tiles 0) (tiles * 256)
 marked zero ends text base marks fits = let none : 0 ≡ 0 * 256 = omega arith in subst (λ (n : ℕ). IsMark text base base n) none (mark_here text base)
 marked (suc tiles) [] text base marks fits = absurd (omega (arith, fits))
@@ -96,7 +96,7 @@ marks_push (end ∷ ends) text base next marks last =
 
 -- ---- a cut
 
--- the lines up to a place behind so many tiles
+-- the lines up to a place after this many tiles
 pub lines_behind : (text : List ℕ) (at first left more count : ℕ) → AreWholeLines (take at text) first → left ≡ count - first → first ≤ count
     → AreWholeLines (take more (drop at text)) left → AreWholeLines (take (at + more) text) count
 lines_behind text at first left more count was is within then =
@@ -111,7 +111,7 @@ fewer_behind text at first left count was is within few =
 
 -- ---- marking
 
--- so many tiles of lines of a text are marked, of which none is too long, and the rest follows them
+-- this many tiles of lines of a text are marked, none of which is too long, and the rest follows them
 pub record IsMarked (text ends rest : List ℕ) : Type 0 where
   pub marks : AreMarks text 0 ends
   pub lines : List (List ℕ)
@@ -129,7 +129,7 @@ last_pushed : (ends : List ℕ) (first next : ℕ) → get_or (first ∷ (ends +
 last_pushed [] first next = refl
 last_pushed (end ∷ ends) first next = last_pushed ends end next
 
--- where 256 lines more end
+-- the place where the next 256 lines end
 next_mark : (text ends rest after : List ℕ) (tile : List (List ℕ)) (next : ℕ) → IsMarked text ends rest → BeginsWith rest tile after → length tile ≡ 256
     → next ≡ length text - length after → IsMark (drop (get_or (0 ∷ ends) (length ends) 0 - 0) text) (get_or (0 ∷ ends) (length ends) 0) next 256
 next_mark text ends rest after tile next was begins count is =

@@ -98,18 +98,18 @@ nothing : (last : List ℕ) → length last ≡ 0 → last ≡ []
 nothing [] is = refl
 nothing (byte ∷ last) is = absurd (omega (arith, is))
 
--- the entries, where no line is begun
+-- the entries, if no line is begun
 pub lines_are : {A : Type 0} (m : Measuring A) (input : List ℕ) (was : IsMeasuring m input) → m.begun ≡ 0 → entries_of input ≡ was.lines
 lines_are m input was none =
     let last : was.last ≡ [] = nothing was.last (omega (arith, was.begun, none)) in
     entries_whole was.lines input was.plain (was.whole ∙ ap (λ (t : List ℕ). lines_text was.lines ++ t) last)
 
--- the lengths of all bundles, where none is behind the full ones
+-- the lengths of all bundles, if no line is behind the full ones
 pub full_lengths : {A : Type 0} (m : Measuring A) (input : List ℕ) → IsMeasuring m input → m.begun ≡ 0 → m.count ≡ 0 → AreBundleLengths m.lengths.items (entries_of input)
 full_lengths m input was none no_more =
     subst (AreBundleLengths m.lengths.items) (sym (lines_are m input was none)) (record { all = omega (arith, was.number, no_more); each = was.each })
 
--- and where one is
+-- and if one is
 pub last_lengths : {A : Type 0} (m : Measuring A) (input : List ℕ) (after : List ℕ) → IsMeasuring m input → m.begun ≡ 0 → after ≡ m.lengths.items ++ (m.bytes + m.count) ∷ [] → AreBundleLengths after (entries_of input)
 last_lengths m input after was none added =
     let longer : length after ≡ length m.lengths.items + 1 = omega (arith, ap length added, length-append m.lengths.items ((m.bytes + m.count) ∷ [])) in
@@ -118,7 +118,7 @@ last_lengths m input after was none added =
       each = all_each m.lengths.items was.lines m.count m.bytes was.number was.left was.each after (m.bytes + m.count) (omega (arith, was.few)) refl added;
     })
 
--- so many bytes were consumed, and taken
+-- this many bytes were consumed and taken
 pub record HasMeasured {A : Type 0} (old new : Option (List ℕ)) (g : Growing A) (m : Measuring A) (total : ℕ) : Type 0 where
   pub input : List ℕ
   pub count : length input ≡ total

@@ -15,7 +15,7 @@ use Rattle.tl_tile.specs.Needed.{tile_at, pieces, needed_resources}
 use Rattle.tl_tile.proofs.Members.{has_map, has_range, has_flat_map, has_one_or_none}
 use Rattle.tl_command.specs.Mirror.{mirrored}
 
--- the resource is lawful, and lies within so many entries; a bundle that isn't full is the last one
+-- the resource is lawful, and lies within this many entries; a bundle that isn't full is the last one
 abbrev pub LiesIn : ℕ → Resource → Type 0
 LiesIn size (resource.Tile t) = IsTile t × (end_of t ≤ size)
 LiesIn size (resource.Entries index width) =

@@ -1,4 +1,4 @@
--- Runs of `inclusion` and `consistency`: what came of an input of which these are the lines.
+-- Runs of `inclusion` and `consistency`: the output for an input of these lines.
 use Rattle.std.proofs.Common.{◌≡◌, ℕ, ◌<◌, ◌≤◌, List, length, sym, ap, subst, ◌∙◌}
 use Rattle.tl_device.specs.Device.{Passage}
 use Rattle.tl_command.specs.Lines.{first_too_long}

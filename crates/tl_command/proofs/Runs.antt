@@ -20,7 +20,7 @@ use Rattle.tl_command.specs.Open.{IsOpened, OpenComes, OpensSigned, after_note}
 use Rattle.tl_command.specs.CheckOpened.{RunsUnder, RunsCheckOpened, subject_of}
 use Rattle.tl_command.proofs.NoteBytes.{note_some}
 
--- a run prints the text that is to come of its input
+-- a run prints the output for its input
 pub printed : (Comes : List ℕ → Output → Type 0) (i o : Passage) (text : List ℕ) (r : Result (Unit {0}) RunFault) → CameOf Comes i (Prints text)
     → OnOk r (WroteWhole o text) → IfErr r (λ fault. fault ≡ Write) → OnErr r (WrotePart o text) → Runs Comes i o r
 printed Comes i o text (Ok done) came whole failed part = record { text = text; came = came; written = whole }
@@ -42,7 +42,7 @@ note_fails A keys i o input (note.Sign place) whole none given = absurd given
 note_fails A keys i o input note.OutOfMemory whole none given =
     (whole.steady, none, inl (input, whole.consumed, note_some input given.0 given.1 given.2))
 
--- the same of what was answered, of the text that the input is
+-- the same for what was opened, of the text that the input is
 pub note_refused : (A : Type 0) (keys : List Key) (i o : Passage) (input message : List ℕ) (fault : NoteFault) (answer : RunFault) → answer ≡ after_note fault → message ≡ input
     → ReadWhole i most_input input → IsUnwritten o → OpensNote {A = A} message keys (Err fault) → Runs (OpenComes keys) i o (Err answer)
 note_refused A keys i o input message fault answer told same whole none given =
@@ -148,7 +148,7 @@ runs_check_opened text bytes entry k i o (Err (BadCheckpoint place)) spelled run
 runs_check_opened text bytes entry k i o (Err (WrongSignature place)) spelled runs = record { key = k; spelled = spelled; fact = runs }
 runs_check_opened text bytes entry k i o (Err Unverified) spelled runs = record { key = k; spelled = spelled; fact = runs }
 
--- the same where the keys are that one
+-- the same for a list of that one key
 pub runs_open_by : (keys : List Key) (text : List ℕ) (k : PublicKey) (i o : Passage) (r : Result (Unit {0}) RunFault) → IsVerifierText note_kind text k
     → keys ≡ verifier_key k ∷ [] → Runs (OpenComes keys) i o r → OpensSigned text i o r
 runs_open_by keys text k i o r spelled one runs = runs_open text k i o r spelled (subst (λ (ks : List Key). Runs (OpenComes ks) i o r) one runs)

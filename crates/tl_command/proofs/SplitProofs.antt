@@ -92,7 +92,7 @@ unfolding tree_hash
 whole-known entries old true root same is = sym (subproof-whole sha256 old true entries same)
 whole-known entries old false root same is = ap (λ (h : List ℕ). h ∷ []) is ∙ sym (subproof-whole sha256 old false entries same)
 
--- where all lines are old
+-- if all lines are old
 pub subproof-all : (entries : List (List ℕ)) (old size : ℕ) (known : Bool) (root : List ℕ) (p : Consistency) → old ≡ size → size ≡ length entries
     → root ≡ tree_hash sha256 entries
     → p ≡ record { old = size; old_root = root; size = size; root = root; proof = if known then [] else root ∷ [] } → p ≡ subproof_of old known entries
@@ -101,7 +101,7 @@ subproof-all entries old size known root p same count root_is is =
     is ∙ subproof_is entries old known size root size root (if known then [] else root ∷ []) (sym same) (root_is ∙ ap (tree_hash sha256) (sym all)) count root_is
     (whole-known entries old known root (same ∙ count) root_is)
 
--- where the old lines are in the left part
+-- if the old lines are in the left part
 pub subproof-in_left : (entries : List (List ℕ)) (k old size : ℕ) (known : Bool) (other old_root root : List ℕ) (part p : Consistency) → IsSplit k (length entries) → old ≤ k
     → size ≡ length entries → part ≡ subproof_of old known (take k entries) → other ≡ tree_hash sha256 (drop k entries)
     → old_root ≡ part.old_root → root ≡ sha256 (node_input part.root other)
@@ -115,7 +115,7 @@ subproof-in_left entries k old size known other old_root root part p s less coun
     (root_is ∙ (λ i. sha256 (node_input (left i) (other_is i))) ∙ sym (tree_hash-split sha256 k entries s))
     ((λ i. below i ++ other_is i ∷ []) ∙ sym (subproof-left sha256 k old known entries s less))
 
--- where all of the left part is old
+-- if all of the left part is old
 pub subproof-in_right : (entries : List (List ℕ)) (k old size : ℕ) (known : Bool) (other old_root root : List ℕ) (part p : Consistency) → IsSplit k (length entries) → k < old
     → old < length entries → size ≡ length entries → part ≡ subproof_of (old - k) false (drop k entries) → other ≡ tree_hash sha256 (take k entries)
     → old_root ≡ sha256 (node_input other part.old_root) → root ≡ sha256 (node_input other part.root)
@@ -144,7 +144,7 @@ consistency-none entries zero size old_root root proof none count old_is root_is
     λ i. consistency 0 ((old_is ∙ sym (tree_hash-none sha256)) i) (count i) (root_is i) (proof_is i)
 consistency-none entries (suc old) size old_root root proof none count old_is root_is proof_is = absurd (omega (arith, none))
 
--- ---- what a call gives, where it gives a proof
+-- ---- what a call gives, if it gives a proof
 
 pub path-left : {A E : Type 0} (r : Result (InclusionProof A) E) (entries front back : List (List ℕ)) (k index size : ℕ) (other root : List ℕ) (part : Inclusion) → IsSplit k size
     → index < k → size ≡ length entries → front ≡ take k entries → back ≡ drop k entries → part ≡ inclusion_of index front → other ≡ tree_hash sha256 back

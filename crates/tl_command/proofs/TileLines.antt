@@ -1,4 +1,4 @@
--- Whole lines at the beginning of a piece of input are found: where a search finds too few, there are no more.
+-- Whole lines at the beginning of a piece of input are found: if a search finds too few, there are no more.
 use Rattle.std.proofs.Common.{◌≡◌, ℕ, ◌<◌, ◌≤◌, true, false, inl, inr, List, [], ◌∷◌, ◌++◌, length, get_or, drop, refl, sym, ap, subst, ◌∙◌, arith, append_assoc}
 use Rattle.std.specs.Prelude.{◌==◌}
 use Rattle.std.proofs.lemmas.Bool.{cases_lt, eq-eqb, lt-ltb}
@@ -88,15 +88,15 @@ begins_behind (text ∷ lines) (next ∷ all) bytes rest end front whole within 
 
 -- ---- none
 
--- where no newline is, there is no line
+-- if there is no newline, there is no line
 pub no_line : (piece : List ℕ) → ((j : ℕ) → 0 ≤ j → j < length piece → (get_or piece j 0 == 10) ≡ true → ⊥) → BeginsWithLines piece 1 → ⊥
 no_line piece none some = let there = newline_there piece some in none there.end (omega arith) there.within there.found
 
--- nor where the first is too far
+-- nor if the first newline is too far
 pub far_line : (piece : List ℕ) (end : ℕ) → ((j : ℕ) → 0 ≤ j → j < end → (get_or piece j 0 == 10) ≡ true → ⊥) → 65535 < end → BeginsWithLines piece 1 → ⊥
 far_line piece end none far some = let there = newline_there piece some in none there.end (omega arith) (omega (arith, there.short, far)) there.found
 
--- where no line follows fewer than 256, there are fewer
+-- if no line follows fewer than 256, there are fewer than 256
 pub no_tile : (piece rest : List ℕ) (lines : List (List ℕ)) → BeginsWith piece lines rest → length lines < 256 → (BeginsWithLines rest 1 → ⊥) → BeginsWithLines piece 256 → ⊥
 no_tile piece rest lines front few none some = none (record {
   lines = drop (length lines) some.lines;

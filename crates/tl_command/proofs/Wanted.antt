@@ -1,4 +1,4 @@
--- From the resource that is wanted to the path that was asked for.
+-- From the resource asked for to its path.
 use Rattle.std.proofs.Common.{◌≡◌, ℕ, ◌+◌, ◌*◌, ◌^◌, ◌<◌, [], ◌∷◌, refl, Bool, true, false, List, length, sym, ap, subst, ◌∙◌, All, ◌≤◌, get_or, inl, inr, ◌⊎◌, ◌↔◌, IsTrue, arith}
 use Rattle.std.specs.Prelude.{Contains, None, Some, Option, Result, Ok, Err, IfOk, IfErr}
 use Rattle.std.specs.declared.vec.Vec.{Vec}
@@ -37,12 +37,12 @@ use Rattle.tl_command.proofs.NeededParts.{LiesIn, lies, lawful}
 pub has_all : {X : Type 0} (xs ys : List X) → xs ≡ ys → All (Contains ys) xs
 has_all xs ys same = subst (λ (t : List _). All (Contains t) xs) same (λ k d lt. (k, lt, get_or_default xs k (get_or xs k d) d lt))
 
--- the test of the resources tells of those of the log
+-- whether the test accepts a resource says whether the log has it
 pub served : (shown : List Resource) (n : ℕ) (wanted : Option Resource) (b : Bool) → shown ≡ mirrored n → IsTrue b ↔ IsServed shown wanted → b ≡ true
     → IsServed (mirrored n) wanted
 served shown n wanted b same told passed = subst (λ (t : List Resource). IsServed t wanted) same (told.0 passed)
 
--- a resource that is wanted and there is one of the log, and lies in it
+-- a resource that is asked for and is there is one of the log, and lies in it
 pub wanted_served : (shown : List Resource) (n : ℕ) (wanted : Option Resource) (b : Bool) (r : Resource) → shown ≡ mirrored n → IsTrue b ↔ IsServed shown wanted → b ≡ true
     → wanted ≡ Some r → Contains (mirrored n) r
 wanted_served shown n wanted b r same told passed is = subst (IsServed (mirrored n)) is (served shown n wanted b same told passed)
@@ -76,7 +76,7 @@ asked_lawful None (Some r) asked = absurd asked
 asked_lawful (Some path) None asked = absurd asked
 asked_lawful (Some path) (Some r) asked = (r, asked.0, asked.1)
 
--- what comes of an input where a resource is wanted is what comes where its path is asked for
+-- the output for an input if a resource is asked for is the output if its path is asked for
 wanted_comes : (key : LogKey) (get : Option (List ℕ)) (wanted : Option Resource) (input : List ℕ) (outcome : Output) → length input ≤ most_input
     → IsAsked get wanted → WantedComes key wanted input outcome → BuildComes key get input outcome
 wanted_comes key get wanted input (Prints text) fits asked comes =
@@ -140,7 +140,7 @@ no_bundle index width = λ has.
 pub has_checkpoint : Contains (mirrored 0) resource.Checkpoint
 has_checkpoint = Contains-append_right (needed_resources 0) (resource.Checkpoint ∷ []) resource.Checkpoint (0, omega arith, refl)
 
--- something is printed of no entries where what is wanted is there
+-- something is printed for no entries if the resource asked for is there
 shown_of_none : (note : List ℕ) (entries : List (List ℕ)) (wanted : Option Resource) → entries ≡ [] → IsServed (mirrored 0) wanted → (text : List ℕ) × IsShown note entries wanted text
 shown_of_none note entries None none served = (listing_text note entries (mirrored (length entries)), refl)
 shown_of_none note entries (Some r) none served = (resource_text note entries r, (subst (λ (es : List (List ℕ)). Contains (mirrored (length es)) r) (sym none) served, refl))
@@ -155,7 +155,7 @@ asks_for key wanted i entries read either =
           inr (shown.0, (none_too_long, shown.1))
     ]
 
--- a run for a resource that is wanted is a run for the path that was asked for
+-- a run for the resource asked for is a run for its path
 pub runs_build : (key : LogKey) (get : Option (List ℕ)) (wanted : Option Resource) (i o : Passage) (r : Result (Unit {0}) RunFault) → IsKeyName key.name → IsAsked get wanted
     → Runs (WantedComes key wanted) i o r → RunsBuild key get i o r
 runs_build key get wanted i o (Ok done) named asked runs = (named, asked_lawful get wanted asked, record { text = runs.text; came = came key get wanted i (Prints runs.text) asked runs.came; written = runs.written })
@@ -190,7 +190,7 @@ runs_build key get wanted i o (Err (fault.BadCheckpoint place)) named asked runs
 runs_build key get wanted i o (Err (fault.WrongSignature place)) named asked runs = (named, asked_lawful get wanted asked, never key get wanted i o (Fails (fault.WrongSignature place)) asked runs)
 runs_build key get wanted i o (Err fault.Unverified) named asked runs = (named, asked_lawful get wanted asked, never key get wanted i o (Fails fault.Unverified) asked runs)
 
--- the bytes of the resource that is wanted are the answer
+-- the bytes of the resource asked for are the answer
 pub answers_some : (A : Type 0) (note n : List ℕ) (entries : List (List ℕ)) (size : ℕ) (wanted : Option Resource) (r : Resource) (result : Result (Vec ℕ A) RunFault) → wanted ≡ Some r
     → n ≡ note → length entries ≡ size → Contains (mirrored size) r → IfOk result (λ bytes. bytes.items ≡ resource_text n entries r) → IfErr result (λ f. f ≡ fault.OutOfMemory)
     → AnswersWanted note entries wanted result
@@ -200,7 +200,7 @@ answers_some A note n entries size wanted r (Ok text) is same count has shown me
     subst (λ (w : Option Resource). IsShown note entries w text.items) (sym is) (there, spelled)
 answers_some A note n entries size wanted r (Err f) is same count has shown memory = subst (λ (e : RunFault). AnswersWanted {A = A} note entries wanted (Err e)) (sym memory) tt
 
--- the log hasn't got what is wanted
+-- the log doesn't have the resource asked for
 pub not_there : (key : LogKey) (wanted : Option Resource) (i o : Passage) (entries : List (List ℕ)) → ReadEntries i most_input entries → IsUnwritten o
     → ¬ (IsServed (mirrored (length entries)) wanted) → Runs (WantedComes key wanted) i o (Err fault.NotThere)
 not_there key wanted i o entries read none given =
@@ -208,7 +208,7 @@ not_there key wanted i o entries read none given =
     let absent : ¬ (IsServed (mirrored (length (entries_of read.input))) wanted) = subst (λ (es : List (List ℕ)). ¬ (IsServed (mirrored (length es)) wanted)) read.lines given in
     (record { input = read.input; whole = read.whole; so = (short, absent) }, none)
 
--- where there is no answer, the run has failed
+-- if there is no answer, the run has failed
 pub answer_fails : (A : Type 0) (key : LogKey) (wanted : Option Resource) (i o : Passage) (f : RunFault) (entries : List (List ℕ)) → ReadEntries i most_input entries → IsUnwritten o
     → IsAsking (WantedComes key wanted) i
     → AnswersWanted {A = A} (checkpoint_note key entries) entries wanted (Err f) → Runs (WantedComes key wanted) i o (Err f)
@@ -238,11 +238,11 @@ answer_fails A key wanted i o (fault.BadCheckpoint place) entries read none asks
 answer_fails A key wanted i o (fault.WrongSignature place) entries read none asks given = absurd given
 answer_fails A key wanted i o fault.Unverified entries read none asks given = absurd given
 
--- the listing is asked for of any input
+-- the listing is printed for any input
 asks_to_list : (key : LogKey) (i : Passage) → IsAsking (WantedComes key None) i
 asks_to_list key i = inr (listing_text (checkpoint_note key (entries_of [])) (entries_of []) (mirrored (length (entries_of []))), (none_too_long, refl))
 
--- where the input's edge wasn't read, the run has failed
+-- if the input's edge wasn't read, the run has failed
 pub list_fails : (key : LogKey) (i o : Passage) (f : RunFault) → IsUnwritten o → ReadsEdge i (Err f) → Runs (WantedComes key None) i o (Err f)
 list_fails key i o fault.Refused none reads = absurd reads
 list_fails key i o fault.Read none reads = (reads, none)
@@ -270,7 +270,7 @@ list_fails key i o (fault.BadCheckpoint place) none reads = absurd reads
 list_fails key i o (fault.WrongSignature place) none reads = absurd reads
 list_fails key i o fault.Unverified none reads = absurd reads
 
--- and it has where memory was refused for the listing
+-- the run has also failed if memory ran out for the listing
 pub list_refused : (key : LogKey) (i o : Passage) (f : RunFault) → IsUnwritten o → IsSteady i → f ≡ fault.OutOfMemory → Runs (WantedComes key None) i o (Err f)
 list_refused key i o f none steady is = subst (λ (e : RunFault). Runs (WantedComes key None) i o (Err e)) (sym is) (steady, none, asks_to_list key i)
 
@@ -289,7 +289,7 @@ list_came key i edge lengths sizes size root text bytes read measured counted ha
       so = (read.short, same ∙ is entries count (sym (hashed entries read.stands)) are ∙ ap (λ (n : ℕ). listing_text (checkpoint_note key entries) entries (mirrored n)) (sym count));
     }
 
--- what came of an input of which this answer is shown
+-- the output for an input for which this answer is shown
 answered : (key : LogKey) (wanted : Option Resource) (i : Passage) (entries : List (List ℕ)) (text bytes : List ℕ) → ReadEntries i most_input entries → IsShown (checkpoint_note key entries) entries wanted bytes → text ≡ bytes
     → CameOf (WantedComes key wanted) i (Prints text)
 answered key wanted i entries text bytes read shown same = record {

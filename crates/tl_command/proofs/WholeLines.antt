@@ -71,7 +71,7 @@ pub begins_placed : (bytes rest end : List ℕ) (lines : List (List ℕ)) (place
 begins_placed bytes rest end lines place next below front more =
     subst (λ (all : List (List ℕ)). BeginsWith bytes all end) (sym (take_more_set lines place next below)) (begins_more bytes rest end (take place lines) (next ∷ []) front more)
 
--- where no line was too long, and lines more of which none is
+-- if no line was too long, and more lines follow, none of which is
 pub none_longer : (new lines : List (List ℕ)) → first_too_long lines ≡ None → All IsShort new → first_too_long (lines ++ new) ≡ None
 none_longer [] lines none short = ap first_too_long (append-nil lines) ∙ none
 none_longer (text ∷ new) lines none short =
@@ -113,7 +113,7 @@ pub no_place : (place : Option ℕ) → is_some place ≡ false → place ≡ No
 no_place None none = refl
 no_place (Some i) none = absurd cc
 
--- whole lines more, where no line is begun and none was too long
+-- more whole lines, if no line is begun and none was too long
 pub grown_lines : {A : Type 0} (old new : Growing A) (input piece : List ℕ) (four : List (List ℕ)) (rest : List ℕ) → IsGrowing old input → BeginsWith piece four rest
     → old.too_long ≡ None → vec_items old.line ≡ [] → new.too_long ≡ None → vec_items new.line ≡ []
     → ((lines : List (List ℕ)) → IsEdgeOf old.edge sha256 lines → IsEdgeOf new.edge sha256 (lines ++ four))
@@ -144,13 +144,13 @@ part_more input piece at n =
     ap (λ (t : List ℕ). (input ++ take at piece) ++ take n t) (take_rest piece at) ∙ append_assoc input (take at piece) (take n (drop at piece))
     ∙ ap (λ (t : List ℕ). input ++ t) (sym (take-add at n piece))
 
--- where no line is too long, each is short
+-- if no line is too long, each is short
 pub each_short : (lines : List (List ℕ)) → first_too_long lines ≡ None → All IsShort lines
 each_short lines none =
     let whole = at_none _ (length lines) none (place_within lines) in
     All-from_get_or IsShort lines [] (λ i lt. fails_before_first is_too_long lines i [] (omega (arith, whole, lt)))
 
--- the whole lines of a piece, after the whole lines of what stands before it, where no line is begun and none too long
+-- the whole lines of a piece, after the whole lines of what stands before it, if no line is begun and none too long
 pub grown_tiles : {A B : Type 0} (old new : Growing A) (next : Growing B) (input piece : List ℕ) → IsGrowing old input → IsGrowing next piece
     → FillsTiles old → FillsTiles next → new.too_long ≡ None → vec_items new.line ≡ []
     → ((lines added : List (List ℕ)) → IsEdgeOf old.edge sha256 lines → IsEdgeOf next.edge sha256 added → IsEdgeOf new.edge sha256 (lines ++ added))

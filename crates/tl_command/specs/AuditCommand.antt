@@ -11,7 +11,7 @@ use Rattle.tl_command.specs.AuditText.{Audit, IsAudit, audit_text}
 use Rattle.tl_run.specs.Run.{Output, Prints, PrintsRefusal, Fails}
 use Rattle.tl_run.specs.declared.fault.RunFault.TheVariants.{Malformed}
 
--- the one step of an audit: to the new list's size and root by the proof
+-- the one step of an audit: by the proof to the new list's size and root
 abbrev pub audited_steps : Digest → Audit → List Step
 audited_steps H a = record { size = length a.new; root = tree_hash H a.new; proof = a.proof } ∷ []
 
@@ -19,27 +19,27 @@ audited_steps H a = record { size = length a.new; root = tree_hash H a.new; proo
 abbrev pub IsAccepted : Digest → Audit → Type 0
 IsAccepted H a = AreAccepted H a.old a.new (audited_steps H a)
 
--- the text tells of two different byte strings that were hashed for the audit and have one digest
+-- the text shows two different byte strings that were hashed for the audit and have one digest
 pub record ShowsCollision (H : Digest) (a : Audit) (text : Bytes) : Type 0 where
   pub first : Bytes
   pub second : Bytes
   pub collide : Exhibits H first second (audit_inputs H a.old a.new (audited_steps H a))
   pub spelled : text ≡ line (codes "collision") ++ line (encode_lower first) ++ line (encode_lower second)
 
--- what is printed where the answer is no
+-- what is printed if the answer is no
 abbrev pub AuditRefuses : Digest → Audit → Bytes → Type 0
 AuditRefuses H a text =
     (¬ (IsAccepted H a) × (text ≡ line (codes "not accepted")))
     ⊎ (IsAccepted H a × ¬ (IsPrefix a.old a.new) × ShowsCollision H a text)
 
--- the input is the text of an audit of which this holds
+-- the input is the text of an audit that has this property
 pub record IsAuditOf (Fact : Audit → Type 0) (input : Bytes) : Type 0 where
   pub audit : Audit
   pub lawful : IsAudit audit
   pub spelled : input ≡ audit_text audit
   pub fact : Fact audit
 
--- what comes of an input: the proof is accepted and the old list is a prefix of the new one, or the answer is no, or
+-- the output for an input: the proof is accepted and the old list is a prefix of the new one; or the answer is no; or
 -- the input is malformed
 abbrev pub AuditComes : Digest → Bytes → Output → Type 0
 AuditComes H input (Prints text) = IsAuditOf (λ a. IsAccepted H a × IsPrefix a.old a.new) input × (text ≡ line (codes "extends"))

@@ -1,4 +1,5 @@
--- Texts of audits (a format of this project): two lists of entries, and a consistency proof from the one to the other.
+-- Texts of audits (a format of this project): two lists of entries, and a consistency proof from the first to the
+-- second.
 use Rattle.std.specs.Prelude.{List, ◌∷◌, ◌++◌, length, All, map, codes}
 use Rattle.tl_hash.specs.Bytes.{Bytes, IsHash}
 use Rattle.tl_text.specs.Text.{number_text, base64_text, IsSize}
@@ -9,7 +10,7 @@ pub record Audit : Type 0 where
   pub new : List Bytes
   pub proof : List Bytes
 
--- what has a text: fewer than 2^63 entries, each one line, and hashes
+-- the audits that have a text: fewer than 2^63 entries, each one line, and hashes
 pub record IsAudit (a : Audit) : Type 0 where
   pub old_count : IsSize (length a.old)
   pub old : All HasNoNewline a.old
@@ -17,7 +18,7 @@ pub record IsAudit (a : Audit) : Type 0 where
   pub new : All HasNoNewline a.new
   pub proof : All IsHash a.proof
 
--- entries behind a line with a word and their number
+-- a line of the word and the number of entries, and then the entries
 abbrev pub counted_lines : Bytes → List Bytes → List Bytes
 counted_lines word entries = (word ++ number_text (length entries)) ∷ entries
 

@@ -20,18 +20,17 @@ pub record IsTextAt (note : Bytes) (entries : List Bytes) (path text : Bytes) : 
   pub named : path_text found ≡ path
   pub spelled : text ≡ resource_text note entries found
 
--- what is printed of the log of these entries: the listing of its resources, or the one with the path that was asked
--- for
+-- what is printed for the log of these entries: the listing of its resources, or the resource with the path asked for
 abbrev pub IsPrinted : Bytes → List Bytes → Option Bytes → Bytes → Type 0
 IsPrinted note entries None text = text ≡ listing_text note entries (mirrored (length entries))
 IsPrinted note entries (Some path) text = IsTextAt note entries path text
 
--- the log of so many entries has no resource with the path that was asked for
+-- a log of this many entries has no resource with the path asked for
 abbrev pub IsMissing : ℕ → Option Bytes → Type 0
 IsMissing size None = ⊥
 IsMissing size (Some path) = (r : Resource) → Contains (mirrored size) r → path_text r ≢ path
 
--- what comes of an input: what is printed of the log of its lines, no such resource, or a line that is too long
+-- the output for an input: what is printed for the log of its lines, or no such resource, or a line that is too long
 abbrev pub BuildComes : LogKey → Option Bytes → Bytes → Output → Type 0
 BuildComes key get input (Prints text) =
     (first_too_long (entries_of input) ≡ None) × IsPrinted (checkpoint_note key (entries_of input)) (entries_of input) get text
@@ -39,13 +38,13 @@ BuildComes key get input (PrintsRefusal text) = ⊥
 BuildComes key get input (Fails NotThere) = (first_too_long (entries_of input) ≡ None) × IsMissing (length (entries_of input)) get
 BuildComes key get input (Fails fault) = IsEntryFault (entries_of input) fault
 
--- the path that was asked for is that of a resource of some log
+-- the path asked for is that of a resource of some log
 abbrev pub IsLawfulPath : Option Bytes → Type 0
 IsLawfulPath None = Unit {0}
 IsLawfulPath (Some path) = (r : Resource) × IsResource r × (path_text r ≡ path)
 
--- a run: an origin that is no key's name, and then a path that no resource can have, are refused before anything is
--- read
+-- a run of `build`: before anything is read it refuses an origin that is no key's name, and then a path that no
+-- resource can have
 abbrev pub RunsBuild : LogKey → Option Bytes → Passage → Passage → Result (Unit {0}) RunFault → Type 0
 RunsBuild key get i o (Err BadOrigin) = ¬ (IsKeyName key.name) × IsUnread i × IsUnwritten o
 RunsBuild key get i o (Err BadPath) = IsKeyName key.name × ¬ (IsLawfulPath get) × IsUnread i × IsUnwritten o

@@ -19,7 +19,7 @@ use Rattle.tl_command.specs.Open.{IsKeyWith, IsWrongNote, IsUnknownNote}
 abbrev pub IsNoCheckpoint : Bytes → Type 0
 IsNoCheckpoint bytes = (c : Head) (lines : List Signature) → IsHead c → Note bytes (checkpoint_text c) lines → ⊥
 
--- what a proof is to be about: the tree of the checkpoint, and an entry, if one is given
+-- what a proof has to be about: the tree of the checkpoint, and an entry, if one is given
 abbrev pub subject_of : Head → Option Bytes → Subject
 subject_of c entry = record { size = c.size; root = c.root; entry = entry }
 
@@ -29,7 +29,7 @@ pub record IsOfOther (bytes : Bytes) (keys : List Key) (name : Bytes) : Type 0 w
   pub signed : IsSignedCheckpoint bytes keys checkpoint
   pub other : checkpoint.origin ≢ name
 
--- the bytes are a signed checkpoint that opens, of the log with this name, and the proof was checked against it
+-- the bytes are a signed checkpoint that opens, of the log with this name, and the proof is checked against it
 pub record ChecksUnder (bytes : Bytes) (keys : List Key) (name : Bytes) (entry : Option Bytes) (i o : Passage) (result : Result (Unit {0}) RunFault) : Type 0 where
   pub checkpoint : Head
   pub signed : IsSignedCheckpoint bytes keys checkpoint
@@ -40,8 +40,8 @@ pub record ChecksUnder (bytes : Bytes) (keys : List Key) (name : Bytes) (entry :
 abbrev pub IsIdle : Passage → Passage → Type 0
 IsIdle i o = IsUnread i × IsUnwritten o
 
--- a run under these keys of a log with this name, with the bytes of a checkpoint: what doesn't open, or is of another
--- log, is refused before anything is read
+-- a run under these keys of a log with this name, with the bytes of a checkpoint: before anything is read it refuses
+-- bytes that don't open, and a checkpoint of another log
 abbrev pub RunsUnder : Bytes → List Key → Bytes → Option Bytes → Passage → Passage → Result (Unit {0}) RunFault → Type 0
 RunsUnder bytes keys name entry i o (Err (BadCheckpoint place)) = (place ≡ File) × IsNoCheckpoint bytes × IsIdle i o
 RunsUnder bytes keys name entry i o (Err (WrongSignature place)) = IsWrongNote keys bytes place × IsIdle i o
@@ -50,7 +50,7 @@ RunsUnder bytes keys name entry i o (Err BadOrigin) = IsOfOther bytes keys name 
 RunsUnder bytes keys name entry i o (Err OutOfMemory) = IsSteady i × IsUnwritten o
 RunsUnder bytes keys name entry i o result = ChecksUnder bytes keys name entry i o result
 
--- a run with the text of the log's verifier's key
+-- a run with the text of the log's verifier key
 abbrev pub RunsCheckOpened : Bytes → Bytes → Option Bytes → Passage → Passage → Result (Unit {0}) RunFault → Type 0
 RunsCheckOpened text bytes entry i o (Err BadKey) = IsNoKey text × IsIdle i o
 RunsCheckOpened text bytes entry i o result = IsKeyWith text (λ k. RunsUnder bytes (verifier_key k ∷ []) k.name entry i o result)

@@ -8,7 +8,7 @@ use Rattle.tl_run.specs.declared.fault.RunFault.{RunFault}
 use Rattle.tl_run.specs.declared.fault.RunFault.TheVariants.{EntryTooLong}
 use Rattle.tl_command.specs.Lines.{entries_of, first_too_long}
 
--- a fault of the entries of an input: the first one that is too long is at this place
+-- a fault of the entries of an input: the first one that is too long has this index
 abbrev pub IsEntryFault : List Bytes → RunFault → Type 0
 IsEntryFault entries (EntryTooLong place) = first_too_long entries ≡ Some place
 IsEntryFault entries fault = ⊥
@@ -20,13 +20,13 @@ pub record ReadEntries (p : Passage) (most : ℕ) (entries : List Bytes) : Type 
   pub lines : entries ≡ entries_of input
   pub short : first_too_long entries ≡ None
 
--- the first entry of the whole input that is too long is at this place
+-- the first entry of the whole input that is too long has this index
 pub record ReadTooLong (p : Passage) (most place : ℕ) : Type 0 where
   pub input : Bytes
   pub whole : ReadWhole p most input
   pub first : first_too_long (entries_of input) ≡ Some place
 
--- reading the entries of all that a reader gives, at most so many bytes
+-- reading the entries of all that a reader gives, at most `most` bytes
 abbrev pub ReadsEntries : {A : Type 0} → ℕ → Passage → Result (Vec (Vec ℕ A) A) RunFault → Type 0
 ReadsEntries most p (Ok entries) = ReadEntries p most (map vec_items (vec_items entries))
 ReadsEntries most p (Err (EntryTooLong place)) = ReadTooLong p most place

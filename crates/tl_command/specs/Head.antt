@@ -17,13 +17,13 @@ abbrev pub head_text : Bytes → List Bytes → Bytes
 head_text origin entries =
     checkpoint_text (record { origin = origin; size = length entries; root = tree_hash sha256 entries; extensions = [] })
 
--- what comes of an input: the checkpoint of the log of its lines, or the first of them that is too long
+-- the output for an input: the checkpoint of the log of its lines, or the first line that is too long
 abbrev pub HeadComes : Bytes → Bytes → Output → Type 0
 HeadComes origin input (Prints text) = (first_too_long (entries_of input) ≡ None) × (text ≡ head_text origin (entries_of input))
 HeadComes origin input (PrintsRefusal text) = ⊥
 HeadComes origin input (Fails fault) = IsEntryFault (entries_of input) fault
 
--- a run: an origin that isn't one line is refused before anything is read
+-- a run of `head`: it refuses an origin that isn't one line before anything is read
 abbrev pub RunsHead : Bytes → Passage → Passage → Result (Unit {0}) RunFault → Type 0
 RunsHead origin i o (Err BadOrigin) = ¬ (IsOneLine origin) × IsUnread i × IsUnwritten o
 RunsHead origin i o result = IsOneLine origin × Runs (HeadComes origin) i o result

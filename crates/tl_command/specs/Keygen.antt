@@ -16,14 +16,14 @@ pub record IsKeyOf (name : Bytes) (kind : ℕ) (k : SeedKey) : Type 0 where
   pub kind_is : k.kind ≡ kind
   pub seed : Are32Bytes k.seed
 
--- its private text went to standard output, and its verifier's text to standard error
+-- the private key's text was written to standard output, and the verifier key's text to standard error
 pub record GaveKey (name : Bytes) (kind : ℕ) (o e : Passage) : Type 0 where
   pub key : SeedKey
   pub of : IsKeyOf name kind key
   pub private : WroteWhole o (line (private_text key))
   pub verifier : WroteWhole e (line (verifier_text (public_of key)))
 
--- standard error failed first, or standard output after it
+-- writing to standard error failed first, or to standard output after it
 pub record GaveSomeKey (name : Bytes) (kind : ℕ) (o e : Passage) : Type 0 where
   pub key : SeedKey
   pub of : IsKeyOf name kind key
@@ -33,7 +33,7 @@ pub record GaveSomeKey (name : Bytes) (kind : ℕ) (o e : Passage) : Type 0 wher
 abbrev pub IsSilent : Passage → Passage → Type 0
 IsSilent o e = IsUnwritten o × IsUnwritten e
 
--- a run: o is standard output, e standard error
+-- a run of `keygen`: `o` is standard output, `e` standard error
 abbrev pub GivesKey : Bytes → ℕ → Passage → Passage → Result (Unit {0}) RunFault → Type 0
 GivesKey name kind o e (Ok done) = GaveKey name kind o e
 GivesKey name kind o e (Err Write) = GaveSomeKey name kind o e

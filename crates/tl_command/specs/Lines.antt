@@ -1,11 +1,11 @@
--- The entries of an input: its lines.
+-- The entries of an input are its lines.
 use Rattle.std.specs.Prelude.{◌≢◌, ℕ, ◌==◌, nat_lt, List, [], ◌∷◌, length, position, All, Bool, Option}
 use Rattle.std.specs.List.{flat_map, slice_split}
 use Rattle.tl_hash.specs.Bytes.{Bytes}
 use Rattle.tl_text.specs.Text.{line}
 use Rattle.tl_tile.specs.Bundle.{most_entry}
 
--- pieces without a last one that is empty
+-- the pieces without the last one, if that is empty
 abbrev pub without_empty_last : List Bytes → List Bytes
 without_empty_last [] = []
 without_empty_last ([] ∷ []) = []
@@ -16,11 +16,11 @@ without_empty_last (piece ∷ next ∷ more) = piece ∷ without_empty_last (nex
 abbrev pub is_too_long : Bytes → Bool
 is_too_long entry = nat_lt most_entry (length entry)
 
--- the input is cut at each newline; what follows the last one is an entry if it isn't empty
+-- the input is cut at each newline; what follows the last newline is an entry if it isn't empty
 unfoldable pub entries_of : Bytes → List Bytes
 entries_of input = without_empty_last (slice_split (λ byte. byte == 10) input)
 
--- the place of the first entry that is too long
+-- the index of the first entry that is too long
 abbrev pub first_too_long : List Bytes → Option ℕ
 first_too_long entries = position is_too_long entries
 

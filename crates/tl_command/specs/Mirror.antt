@@ -1,4 +1,5 @@
--- What a static mirror of a log serves (C2SP tlog-tiles): its tiles, entry bundles and checkpoint, each under its path.
+-- What a static mirror of a log serves (C2SP tlog-tiles): its tiles, entry bundles and checkpoint, each under its
+-- path.
 use Rattle.std.specs.Prelude.{ℕ, ◌*◌, List, [], ◌∷◌, ◌++◌, length, take, drop}
 use Rattle.std.specs.List.{flat_map}
 use Rattle.sha2.specs.Sha256.{sha256}
@@ -15,13 +16,13 @@ use Rattle.tl_tile.specs.Needed.{needed_resources}
 abbrev pub mirrored : ℕ → List Resource
 mirrored size = needed_resources size ++ resource.Checkpoint ∷ []
 
--- the bytes of a resource over the entries, where this is the checkpoint's note
+-- the bytes of a resource of the log of these entries, whose checkpoint is this note
 abbrev pub resource_text : Bytes → List Bytes → Resource → Bytes
 resource_text note entries (resource.Tile t) = tile_text sha256 t entries
 resource_text note entries (resource.Entries index width) = bundle_text (take width (drop (index * 256) entries))
 resource_text note entries resource.Checkpoint = note
 
--- the path of a resource and the number of its bytes, a space between
+-- the line of a resource: its path, a space, and the number of its bytes
 abbrev pub listing_line : Bytes → List Bytes → Resource → Bytes
 listing_line note entries r = line (path_text r ++ 32 ∷ number_text (length (resource_text note entries r)))
 

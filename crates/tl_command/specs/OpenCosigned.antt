@@ -1,4 +1,5 @@
--- The command `open` under the key of a witness: the message that it signed of a note (C2SP tlog-cosignature, "Format").
+-- The command `open` under the key of a witness: the message that the witness signed of a note (C2SP
+-- tlog-cosignature, "Format").
 use Rattle.std.specs.Prelude.{◌≡◌, ℕ, List, [], ◌∷◌, ◌++◌, length}
 use Rattle.tl_hash.specs.Bytes.{Bytes}
 use Rattle.tl_note.specs.Key.{Key}
@@ -12,7 +13,7 @@ abbrev pub HasNoLine : Key → List Signature → Type 0
 HasNoLine key [] = Unit {0}
 HasNoLine key (line ∷ lines) = ¬ (IsOfKey key line) × HasNoLine key lines
 
--- the first of the lines that is of the key is this one, at this place, counted from 0
+-- this line is the first of the lines that is of the key, and it has this index, counted from 0
 pub record IsFirst (key : Key) (lines : List Signature) (place : ℕ) (line : Signature) : Type 0 where
   pub before : List Signature
   pub after : List Signature
@@ -21,7 +22,8 @@ pub record IsFirst (key : Key) (lines : List Signature) (place : ℕ) (line : Si
   pub none : HasNoLine key before
   pub of : IsOfKey key line
 
--- the first line of the key is its cosignature of the note's text, at some time, and this is the message that it signed
+-- the first line of the key is its cosignature of the note's text at some time, and this is the message that it
+-- signed
 pub record IsMessageOf (key : Key) (note message : Bytes) : Type 0 where
   pub text : Bytes
   pub lines : List Signature
@@ -33,7 +35,7 @@ pub record IsMessageOf (key : Key) (note message : Bytes) : Type 0 where
   pub valid : IsCosignature text key line time
   pub spelled : message ≡ cosigned_message time text
 
--- the first line of the key is at this place, and no cosignature of the note's text
+-- the first line of the key has this index, and is no cosignature of the note's text
 pub record IsWrongAt (key : Key) (note : Bytes) (place : ℕ) : Type 0 where
   pub text : Bytes
   pub lines : List Signature
@@ -49,7 +51,7 @@ pub record IsOfNoLine (key : Key) (note : Bytes) : Type 0 where
   pub noted : Note note text lines
   pub none : HasNoLine key lines
 
--- what comes of an input: the message that the key signed of the note that it is, or why there is none
+-- the output for an input: the message that the key signed of the note that the input is, or why there is none
 abbrev pub CosignedComes : Key → Bytes → Output → Type 0
 CosignedComes key input (Prints message) = IsMessageOf key input message
 CosignedComes key input (PrintsRefusal text) = ⊥

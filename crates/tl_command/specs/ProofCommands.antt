@@ -31,7 +31,8 @@ consistency_of old entries = record {
   proof = consistency_proof sha256 old entries;
 }
 
--- what comes of an input to `inclusion`: the proof over its lines, a line that is too long, or no entry at the index
+-- the output of `inclusion` for an input: the proof over its lines, or a line that is too long, or no entry at the
+-- index
 abbrev pub InclusionComes : ℕ → Bytes → Output → Type 0
 InclusionComes index input (Prints text) =
     (first_too_long (entries_of input) ≡ None) × (index < length (entries_of input)) × (text ≡ inclusion_text (inclusion_of index (entries_of input)))
@@ -39,8 +40,8 @@ InclusionComes index input (PrintsRefusal text) = ⊥
 InclusionComes index input (Fails BadIndex) = (first_too_long (entries_of input) ≡ None) × (length (entries_of input) ≤ index)
 InclusionComes index input (Fails fault) = IsEntryFault (entries_of input) fault
 
--- what comes of an input to `consistency`: the proof over its lines, a line that is too long, or fewer lines than the
--- old size
+-- the output of `consistency` for an input: the proof over its lines, or a line that is too long, or fewer lines than
+-- the old size
 abbrev pub ConsistencyComes : ℕ → Bytes → Output → Type 0
 ConsistencyComes old input (Prints text) =
     (first_too_long (entries_of input) ≡ None) × (old ≤ length (entries_of input)) × (text ≡ consistency_text (consistency_of old (entries_of input)))
@@ -48,43 +49,44 @@ ConsistencyComes old input (PrintsRefusal text) = ⊥
 ConsistencyComes old input (Fails BadOld) = (first_too_long (entries_of input) ≡ None) × (length (entries_of input) < old)
 ConsistencyComes old input (Fails fault) = IsEntryFault (entries_of input) fault
 
--- the input is the text of a proof of which this holds
+-- the input is the text of a proof that has this property
 pub record IsTextOf (Fact : Proof → Type 0) (input : Bytes) : Type 0 where
   pub proof : Proof
   pub lawful : IsProof proof
   pub spelled : input ≡ proof_text proof
   pub fact : Fact proof
 
--- what comes of an input to `check`: a proof's text is accepted or refused, and another input is malformed
+-- the output of `check` for an input: a proof is accepted or refused, and an input that is no proof's text is
+-- malformed
 abbrev pub ChecksBy : (Proof → Type 0) → Bytes → Output → Type 0
 ChecksBy IsGood input (Prints text) = IsTextOf IsGood input × (text ≡ line (codes "accepted"))
 ChecksBy IsGood input (PrintsRefusal text) = IsTextOf (λ p. ¬ (IsGood p)) input × (text ≡ line (codes "refused"))
 ChecksBy IsGood input (Fails Malformed) = (p : Proof) → IsProof p → input ≢ proof_text p
 ChecksBy IsGood input (Fails fault) = ⊥
 
--- a proof is good where it is accepted
+-- a proof is good if it is accepted
 abbrev pub CheckComes : Bytes → Output → Type 0
 CheckComes input outcome = ChecksBy (Accepts sha256) input outcome
 
--- what a proof is to be about: the size and the root of a trusted checkpoint, and the entry that is to be shown, if
--- one is
+-- what a proof has to be about: the size and the root of a trusted checkpoint, and the entry that it has to show, if
+-- one is given
 pub record Subject : Type 0 where
   pub size : ℕ
   pub root : Bytes
   pub entry : Option Bytes
 
--- the hash of this entry is shown, where one is asked for
+-- the hash is that of the entry to show, if one is given
 abbrev pub Shows : Option Bytes → Option Bytes → Type 0
 Shows None leaf = Unit {0}
 Shows (Some entry) leaf = leaf ≡ Some (sha256 (leaf_input entry))
 
--- a tree, and the hash of an entry that is shown, are the subject's
+-- the tree and the entry's hash are the subject's
 pub record AreOf (s : Subject) (size : ℕ) (root : Bytes) (leaf : Option Bytes) : Type 0 where
   pub same_size : size ≡ s.size
   pub same_root : root ≡ s.root
   pub shown : Shows s.entry leaf
 
--- a proof is good where it is accepted, leads to the subject's tree, and shows its entry
+-- a proof is good if it is accepted, leads to the subject's tree, and shows the subject's entry
 abbrev pub IsAbout : Subject → Proof → Type 0
 IsAbout s p = Accepts sha256 p × AreOf s (proof_size p) (proof_root p) (proof_leaf p)
 

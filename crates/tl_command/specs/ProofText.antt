@@ -5,7 +5,7 @@ use Rattle.tl_text.specs.Text.{number_text, base64_text, IsSize}
 use Rattle.tl_proof.specs.Acceptance.{AcceptsInclusion, AcceptsConsistency}
 use Rattle.tl_command.specs.Lines.{lines_text}
 
--- an inclusion proof (RFC 6962, section 2.1.1), and the leaf, the place and the tree that it is about
+-- an inclusion proof (RFC 6962, section 2.1.1), with the leaf, the index and the tree that it is about
 pub record Inclusion : Type 0 where
   pub index : ℕ
   pub size : ℕ
@@ -13,7 +13,7 @@ pub record Inclusion : Type 0 where
   pub root : Bytes
   pub proof : List Bytes
 
--- a consistency proof (RFC 6962, section 2.1.2), and the two trees that it is about
+-- a consistency proof (RFC 6962, section 2.1.2), with the two trees that it is about
 pub record Consistency : Type 0 where
   pub old : ℕ
   pub old_root : Bytes
@@ -21,7 +21,7 @@ pub record Consistency : Type 0 where
   pub root : Bytes
   pub proof : List Bytes
 
--- what has a text: numbers below 2^63, and hashes
+-- the proofs that have a text: their numbers are below 2^63, and the rest are hashes
 pub record IsInclusion (p : Inclusion) : Type 0 where
   pub index : IsSize p.index
   pub size : IsSize p.size

@@ -9,14 +9,14 @@ use Rattle.tl_run.specs.Keys.{IsPrivateFile, IsNoPrivateFile}
 use Rattle.tl_run.specs.Signing.{seed_log_key}
 use Rattle.tl_command.specs.Build.{RunsBuild}
 
--- they are the text of a key of which this holds
+-- the bytes are the text of a key that has this property
 pub record IsPrivateFileWith (bytes : Bytes) (Fact : SeedKey → Type 0) : Type 0 where
   pub key : SeedKey
   pub file : IsPrivateFile note_kind bytes key
   pub fact : Fact key
 
--- a run with the bytes of a file: what is no key, or a key of another name than the log's, is refused before anything
--- is read. Memory is asked for the key, too
+-- a run with the bytes of a file: before anything is read it refuses bytes of no key, and a key with another name
+-- than the log's. The key needs memory, too
 abbrev pub RunsSigned : Bytes → Bytes → Option Bytes → Passage → Passage → Result (Unit {0}) RunFault → Type 0
 RunsSigned origin bytes get i o (Err BadKeyFile) = IsNoPrivateFile note_kind bytes × IsUnread i × IsUnwritten o
 RunsSigned origin bytes get i o (Err BadOrigin) = IsPrivateFileWith bytes (λ k. k.name ≢ origin) × IsUnread i × IsUnwritten o

@@ -1,4 +1,4 @@
-//! Audits, as their texts have them.
+//! The text of an audit, read.
 
 ghost use Rattle.std.specs.Prelude.{◌≡◌, ◌≢◌, ◌<◌, ◌++◌, List, length, map, vec_items, IfOk, OnErr, IfSome, MatchOption};
 ghost use Rattle.tl_hash.specs.Bytes.{Bytes, IsHash};
@@ -10,7 +10,7 @@ use crate::lines::{hashes_of, number_after};
 use std::alloc::{AllocError, Allocator};
 use tl_hash::Hash;
 
-/// Two lists of entries, and a consistency proof from the one to the other.
+/// Two lists of entries, and a consistency proof from the first list to the second.
 #[derive(Drop)]
 pub(crate) struct AuditParts<'a, A: Allocator, B: Allocator> {
     pub(crate) old: &'a [Vec<u8, B>],
@@ -18,7 +18,8 @@ pub(crate) struct AuditParts<'a, A: Allocator, B: Allocator> {
     pub(crate) proof: Vec<Hash, A>,
 }
 
-// The entries behind a line with a word and their number, and the lines after them.
+// Returns the entries behind a first line, which is the word and their number, and the lines after them. It returns
+// None if the first line isn't of that form, or if fewer lines follow it.
 fn counted<'a, B: Allocator>(
     lines: &'a [Vec<u8, B>],
     word: &[u8],
@@ -43,7 +44,8 @@ fn counted<'a, B: Allocator>(
     Some((&rest[..count as usize], &rest[count as usize..]))
 }
 
-/// The audit of which these are the lines. That the entries have no newline is the caller's to know.
+/// Returns the audit whose text has these lines, or None if they are no audit's. The caller sees to it that no line
+/// has a newline. It fails only if allocation fails.
 pub(crate) fn read_audit<'a, A: Allocator + Copy, B: Allocator>(
     alloc: A,
     lines: &'a [Vec<u8, B>],

@@ -1,4 +1,4 @@
-//! The entries of an input, which are its lines.
+//! The entries of an input are its lines.
 
 ghost use Rattle.std.specs.Prelude.{◌≡◌, ◌+◌, ◌<◌, ◌≤◌, ◌∷◌, length, map, vec_items, vec_len, IfOk, OnErr, position, nat_lt};
 ghost use Rattle.tl_device.specs.Device.{passage};
@@ -12,7 +12,7 @@ use tl_device::Counted;
 use tl_run::{RunFault, read_input};
 use tl_tile::LONGEST_ENTRY;
 
-/// The first entry of an input that isn't empty, and the rest of the input.
+/// Returns the first entry of an input that isn't empty, without its newline, and the rest of the input.
 pub(crate) fn first_entry(input: &[u8]) -> (&[u8], &[u8])
     requires { 0 < length input.now }
     ensures entry { entries_of input.entry.now ≡ result.0.now ∷ entries_of result.1.now }
@@ -25,7 +25,7 @@ pub(crate) fn first_entry(input: &[u8]) -> (&[u8], &[u8])
     }
 }
 
-/// The entries of an input.
+/// Returns the entries of an input. It fails only if allocation fails.
 pub(crate) fn split_entries<A: Allocator + Copy>(
     alloc: A,
     input: &[u8],
@@ -43,16 +43,17 @@ pub(crate) fn split_entries<A: Allocator + Copy>(
     Ok(entries)
 }
 
-// The place of the first entry that is too long.
+// Returns the index of the first entry that is too long.
 fn find_too_long<A: Allocator>(entries: &[Vec<u8, A>]) -> Option<usize>
     ensures { result ≡ position (λ entry. nat_lt 65535 (vec_len entry)) entries.now }
 {
     entries.iter().position(|entry| entry.len() > LONGEST_ENTRY)
 }
 
-/// The entries of all that the reader gives: it is cut at each newline, and a last piece without one is an entry if
-/// it isn't empty. An input of more than `most` bytes is `TooLarge`, and then one with an entry of more than 65,535
-/// bytes is `EntryTooLong` of the first such entry.
+/// Reads all that the reader gives and returns its entries: the input is cut at each newline, and a last piece
+/// without one is an entry if it isn't empty. It fails with `TooLarge` if the input has more than `most` bytes, and
+/// else with `EntryTooLong` of the first entry that has more than 65,535 bytes. It also fails if a read or an
+/// allocation fails.
 pub fn read_entries<A: Allocator + Copy, R: Read>(
     alloc: A,
     reader: &mut Counted<R>,

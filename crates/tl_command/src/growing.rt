@@ -1,4 +1,4 @@
-//! The right edge of the log of an input's lines, while the input is read.
+//! Builds the right edge of the log of an input's lines while the input is read.
 
 ghost use Rattle.std.specs.Prelude.{◌≡◌, ◌<◌, ◌≤◌, ◌+◌, ◌-◌, ◌^◌, ◌∷◌, [], ◌++◌, List, length, take, vec_items, None, IfOk, IsTrue, OnOk};
 ghost use Rattle.tl_hash.specs.Bytes.{Bytes};
@@ -17,8 +17,8 @@ pub(crate) mod measuring;
 pub(crate) mod reading;
 mod shares;
 
-// What is kept of an input so far: the right edge of the log of its whole lines, as much of the last, unended line as
-// tells whether it is too long, and the place of the first line that is too long, after which the edge stays as it is.
+// The state after the input so far: the right edge of the log of its whole lines, the beginning of the unended last
+// line, and the index of the first line that is too long, after which the edge doesn't change.
 #[derive(Drop)]
 struct Growing<A: Allocator> {
     edge: Edge<Sha256Tree, A>,
@@ -26,11 +26,11 @@ struct Growing<A: Allocator> {
     too_long: Option<u64>,
 }
 
-// One byte more than an entry may have, so that a longer line can be told.
+// One byte more than an entry may have, enough to see that a line is too long.
 const MOST_KEPT: usize = 65_536;
 
 impl<A: Allocator + Copy> Growing<A> {
-    // What is kept of no input.
+    // Returns the state before any input.
     fn new(alloc: A) -> Growing<A>
         ensures size { result.edge.size ≡ 0 }
         ensures grows { IsGrowing result [] }
@@ -42,7 +42,7 @@ impl<A: Allocator + Copy> Growing<A> {
         }
     }
 
-    // More of the last line.
+    // Takes more of the last line.
     fn extend(&mut self, part: &[u8]) -> Result<(), AllocError>
         requires { HasNoNewline part.now }
         ensures size { OnOk result (self.new.edge.size ≡ self.old.edge.size) }
@@ -54,7 +54,7 @@ impl<A: Allocator + Copy> Growing<A> {
         Ok(())
     }
 
-    // Notes that the last line is too long, or adds it to the log.
+    // Adds the last line to the log, or notes that it is too long.
     fn log_line(&mut self) -> Result<(), AllocError>
         requires size { self.old.edge.size < 2 ^ 32 - 1 }
         requires none { self.old.too_long ≡ None }
@@ -71,7 +71,7 @@ impl<A: Allocator + Copy> Growing<A> {
         Ok(())
     }
 
-    // The end of the last line.
+    // Takes the newline that ends the last line.
     fn end_line(&mut self) -> Result<(), AllocError>
         requires { self.old.edge.size < 2 ^ 32 - 1 }
         ensures size { OnOk result (self.new.edge.size ≤ self.old.edge.size + 1) }
@@ -88,9 +88,9 @@ impl<A: Allocator + Copy> Growing<A> {
         Ok(())
     }
 
-    // The first four lines of a piece, hashed side by side. Gives the number of bytes taken: none where a line is
-    // begun, a line was too long, or no four whole lines stand there that an entry can have; nor where four lines would
-    // go past the beginning of a tile.
+    // Takes the first four lines of a piece, hashed side by side, and returns how many bytes it took. It takes none
+    // if a line is begun, a line was too long, four lines would go past the beginning of a tile, or the piece doesn't
+    // begin with four whole lines that are short enough.
     fn take_four(&mut self, piece: &[u8]) -> Result<usize, AllocError>
         requires { self.old.edge.size + length piece.now < 2 ^ 32 }
         ensures within { IfOk result (λ taken. taken ≤ length piece.now) }
@@ -109,8 +109,9 @@ impl<A: Allocator + Copy> Growing<A> {
         Ok(piece.len() - four.rest.len())
     }
 
-    // The first 256 lines of a piece, where they are a tile, hashed side by side. Gives the number of bytes taken: none
-    // where the lines before aren't whole tiles, or no 256 whole lines stand there that an entry can have.
+    // Takes the first 256 lines of a piece as one tile, hashed side by side, and returns how many bytes it took. It
+    // takes none if the lines before aren't whole tiles, or the piece doesn't begin with 256 whole lines that are
+    // short enough.
     fn take_tile(&mut self, piece: &[u8]) -> Result<usize, AllocError>
         requires { self.old.edge.size + length piece.now < 2 ^ 32 }
         ensures within { IfOk result (λ taken. taken ≤ length piece.now) }
@@ -128,8 +129,8 @@ impl<A: Allocator + Copy> Growing<A> {
         Ok(piece.len() - tile.rest.len())
     }
 
-    // The first whole lines of a piece that are hashed side by side: a tile of them, or else four. Gives the number of
-    // bytes taken, none where neither stands there.
+    // Takes the first whole lines of a piece that can be hashed side by side, a tile of them or else four. It returns
+    // how many bytes it took, 0 if it can take neither.
     fn take_whole(&mut self, piece: &[u8]) -> Result<usize, AllocError>
         requires { self.old.edge.size + length piece.now < 2 ^ 32 }
         ensures within { IfOk result (λ taken. taken ≤ length piece.now) }
@@ -144,8 +145,8 @@ impl<A: Allocator + Copy> Growing<A> {
         self.take_four(piece)
     }
 
-    // The beginning of a piece: whole lines of it that are hashed side by side, or else one, or all of it where it has
-    // no newline. Gives the number of bytes taken.
+    // Takes the beginning of a piece and returns how many bytes it took: whole lines that are hashed side by side, or
+    // else one line, or all of the piece if it has no newline.
     fn take_some(&mut self, piece: &[u8]) -> Result<usize, AllocError>
         requires { self.old.edge.size + length piece.now < 2 ^ 32 }
         ensures some { 0 < length piece.now → IfOk result (λ taken. 0 < taken) }
@@ -167,7 +168,7 @@ impl<A: Allocator + Copy> Growing<A> {
         Ok(end + 1)
     }
 
-    // A piece more of the input. The edge takes up to 2^32 - 1 lines.
+    // Takes one more piece of the input. The edge takes up to 2^32 - 1 lines.
     fn take(&mut self, piece: &[u8]) -> Result<(), AllocError>
         requires { self.old.edge.size + length piece.now < 2 ^ 32 }
         ensures size { OnOk result (self.new.edge.size ≤ self.old.edge.size + length piece.now) }
@@ -181,14 +182,14 @@ impl<A: Allocator + Copy> Growing<A> {
         Ok(())
     }
 
-    // Whether all that is kept are whole tiles of lines: none is begun, and none was too long.
+    // Reports whether the state is whole tiles of lines: no line is begun, and none was too long.
     fn fills_tiles(&self) -> bool
         ensures { IsTrue result → FillsTiles self.now }
     {
         self.edge.size() % 256 == 0 && self.line.is_empty() && self.too_long.is_none()
     }
 
-    // What is told of the lines.
+    // Returns the edge, or `EntryTooLong` of the first line that is too long.
     fn outcome(self) -> Result<Edge<Sha256Tree, A>, RunFault>
         ensures { (lines : List Bytes) → IsTold self lines → IsOutcome lines result }
     {
@@ -203,8 +204,8 @@ impl<A: Allocator + Copy> Growing<A> {
         }
     }
 
-    // The end of the input: a last line that isn't empty is one of its lines. Gives the right edge of the log of
-    // them, or the place of the first that is too long.
+    // Ends the input, whose last line counts if it isn't empty. It returns the right edge of the log of the lines, or
+    // `EntryTooLong` of the first line that is too long.
     fn finish(mut self) -> Result<Edge<Sha256Tree, A>, RunFault>
         requires { self.edge.size < 2 ^ 32 - 1 }
         ensures { (input : Bytes) → IsGrowing self input → IsOutcome (entries_of input) result }

@@ -1,4 +1,4 @@
-//! The lines of a text, counted in one pass that notes where each 256th of them ends.
+//! Counts the lines of a text in one pass, and notes where each 256th line ends.
 
 ghost use Rattle.std.specs.Prelude.{◌≡◌, ◌-◌, ◌*◌, ◌<◌, ◌^◌, List, length, None, IfErr, IfOk, OnErr, OnOk};
 ghost use Rattle.tl_hash.specs.Bytes.{Bytes};
@@ -14,8 +14,8 @@ use std::alloc::{AllocError, Allocator};
 use std::marker::Model;
 use tl_run::RunFault;
 
-/// The lines of a text, none of which is too long, and where each 256th of them ends, as far as each has its newline.
-/// Contracts see the list of them.
+/// The lines of a text, none of which is too long, and where each 256th of them ends, if that line has its newline.
+/// Contracts see the list of lines.
 #[derive(Drop)]
 pub(crate) struct LineMarks<'a, A: Allocator> {
     text: &'a [u8],
@@ -37,8 +37,8 @@ impl<'a, A: Allocator> Model for LineMarks<'a, A> {
         AreMarkedLines marks.text.now 0 marks.ends.items marks.count };
 }
 
-// The places where each 256th line of a text ends, up to the first line that is too long or has no newline, and what
-// follows the last of them.
+// Returns the places where each 256th line of a text ends, up to the first line that is too long or has no newline,
+// and what follows the last of these places.
 fn mark_tiles<A: Allocator>(alloc: A, text: &[u8]) -> Result<(Vec<usize, A>, &[u8]), AllocError>
     ensures marks { IfOk result (λ marked. AreMarks text.entry.now 0 marked.0.items) }
     ensures lines { IfOk result (λ marked. (lines : List Bytes)
@@ -57,8 +57,8 @@ fn mark_tiles<A: Allocator>(alloc: A, text: &[u8]) -> Result<(Vec<usize, A>, &[u
 }
 
 impl<'a, A: Allocator> LineMarks<'a, A> {
-    /// The lines of a text. A line of more than 65,535 bytes is `EntryTooLong` of the first such line. The memory is
-    /// that of a place for each 256 lines.
+    /// Returns the lines of a text. It fails with `EntryTooLong` of the first line that has more than 65,535 bytes.
+    /// It allocates one place for each 256 lines.
     pub(crate) fn of(alloc: A, text: &'a [u8]) -> Result<LineMarks<'a, A>, RunFault>
         requires { length text.now < 2 ^ 32 - 1 }
         ensures lines { IfOk result (λ marks. marks ≡ entries_of text.now) }
@@ -77,7 +77,7 @@ impl<'a, A: Allocator> LineMarks<'a, A> {
         }
     }
 
-    /// The lines as the entries of a log, of which parts are hashed.
+    /// Returns the lines as the entries of a log.
     pub(crate) fn lines(&self) -> LogLines<'_>
         ensures { result ≡ self.now }
     {

@@ -1,5 +1,5 @@
-//! Lines of a text, and the number or the hash that stands in one after a word. Each reader takes exactly what has
-//! that spelling.
+//! The lines of a text, and the number or the hash that follows a word in a line. Each reader accepts one exact
+//! spelling.
 
 ghost use Rattle.std.specs.Prelude.{◌≡◌, ◌≢◌, ◌<◌, ◌^◌, ◌++◌, ℕ, List, All, MatchOption, IfOk, OnErr, length, MatchBool, IsUtf8, map, vec_items};
 ghost use Rattle.tl_hash.specs.Bytes.{Bytes, IsHash};
@@ -12,7 +12,7 @@ use std::str;
 use tl_hash::Hash;
 use tl_text::{parse_hash, parse_size};
 
-// Whether a text is lines, each ended by its newline.
+// Reports whether a text is lines, each ended by its newline.
 fn is_lines(text: &[u8]) -> bool
     ensures { MatchBool result (text.now ≡ lines_text (entries_of text.now))
         ((lines : List Bytes) → text.now ≢ lines_text lines) }
@@ -40,7 +40,8 @@ pub fn lines_of<A: Allocator + Copy>(
     Ok(Some(split_entries(alloc, text)?))
 }
 
-// What follows a word in a line.
+// Returns what follows a word at the beginning of a line, or None if the line doesn't begin with it or the rest isn't
+// UTF-8.
 fn text_after<'a>(line: &'a [u8], word: &[u8]) -> Option<&'a str>
     ensures { MatchOption result ((text : Bytes) → IsUtf8 text → line.now ≢ word.now ++ text)
         (λ text. line.now ≡ word.now ++ text.now) }
@@ -54,7 +55,7 @@ fn text_after<'a>(line: &'a [u8], word: &[u8]) -> Option<&'a str>
     }
 }
 
-/// The number below 2^63 that follows a word in a line.
+/// Returns the number below 2^63 that follows a word in a line.
 pub(crate) fn number_after(line: &[u8], word: &[u8]) -> Option<u64>
     ensures { MatchOption result ((n : ℕ) → IsSize n → line.now ≢ word.now ++ number_text n)
         (λ n. (n < 2 ^ 63) × (line.now ≡ word.now ++ number_text n)) }
@@ -65,7 +66,7 @@ pub(crate) fn number_after(line: &[u8], word: &[u8]) -> Option<u64>
     parse_size(text)
 }
 
-/// The hash that follows a word in a line, in base64.
+/// Returns the hash that follows a word in a line, in base64.
 pub(crate) fn hash_after(line: &[u8], word: &[u8]) -> Option<Hash>
     ensures { MatchOption result
         ((hash : Bytes) → IsHash hash → line.now ≢ word.now ++ base64_text hash)
@@ -77,7 +78,7 @@ pub(crate) fn hash_after(line: &[u8], word: &[u8]) -> Option<Hash>
     parse_hash(text)
 }
 
-/// The numbers below 2^63 that follow their words in two lines.
+/// Returns the numbers below 2^63 that follow their words in two lines.
 pub(crate) fn two_numbers(
     first: &[u8],
     word: &[u8],
@@ -98,7 +99,7 @@ pub(crate) fn two_numbers(
     Some((m, n))
 }
 
-/// The hashes that follow their words in two lines, in base64.
+/// Returns the hashes that follow their words in two lines, in base64.
 pub(crate) fn two_hashes(
     first: &[u8],
     word: &[u8],
@@ -119,7 +120,8 @@ pub(crate) fn two_hashes(
     Some((g, h))
 }
 
-/// The hashes that lines have, one each, in base64.
+/// Returns the hashes that lines have, one each, in base64, or None if a line has none. It fails only if allocation
+/// fails.
 pub(crate) fn hashes_of<A: Allocator + Copy, B: Allocator>(
     alloc: A,
     lines: &[Vec<u8, B>],

@@ -1,4 +1,4 @@
-//! The lines of a text as the entries of a log, of which parts are hashed.
+//! The lines of a text as the entries of a log, hashed part by part without a copy.
 
 ghost use Rattle.std.specs.Prelude.{◌≡◌, ◌-◌, ◌<◌, ◌^◌, length, map, take, drop, vec_items, IfOk};
 ghost use Rattle.sha2.specs.Sha256.{sha256};
@@ -14,8 +14,8 @@ use std::thread::Threads;
 use tl_hash::Hash;
 use tl_run::RunFault;
 
-/// The lines of a text, none of which is too long: the entries of a log. They stay where they are. Contracts see the
-/// list of them. `LineMarks` gives them.
+/// The lines of a text, none of which is too long, as the entries of a log. They are borrowed from the text.
+/// Contracts see the list of them.
 #[derive(Drop)]
 pub(crate) struct LogLines<'a> {
     pub(crate) marked: MarkedText<'a>,
@@ -36,7 +36,7 @@ impl<'a> Model for LogLines<'a> {
         lines.marked.ends.now lines.count };
 }
 
-// Lines that aren't too long can be hashed but for want of memory.
+// Returns the only fault that hashing lines which aren't too long can have: allocation failed.
 fn only_memory(fault: RunFault) -> AllocError
     requires { fault ≡ RunFault.OutOfMemory }
 {
@@ -47,7 +47,7 @@ fn only_memory(fault: RunFault) -> AllocError
 }
 
 impl<'a> LogLines<'a> {
-    /// How many lines there are.
+    /// Returns the number of lines.
     pub(crate) fn count(&self) -> u64
         ensures count { result ≡ length self.now }
         ensures few { result < 2 ^ 32 - 1 }
@@ -55,7 +55,7 @@ impl<'a> LogLines<'a> {
         self.count
     }
 
-    /// The first `count` lines, or all where they are fewer, and those after them.
+    /// Returns the first `count` lines, or all of them if there are fewer, and the lines after these.
     pub(crate) fn split(&self, count: u64) -> (LogLines<'a>, LogLines<'a>)
         ensures first { result.0 ≡ take count self.now }
         ensures others { result.1 ≡ drop count self.now }
@@ -73,7 +73,7 @@ impl<'a> LogLines<'a> {
         (first, others)
     }
 
-    /// The lines, copied.
+    /// Returns a copy of each line.
     pub(crate) fn copied<A: Allocator + Copy>(
         &self,
         alloc: A,
@@ -84,8 +84,8 @@ impl<'a> LogLines<'a> {
         split_entries(alloc, self.marked.text)
     }
 
-    /// The root of the log of the lines (RFC 6962, section 2.1), hashed by so many threads, which take memory from
-    /// `workers`.
+    /// Returns the root of the log of the lines (RFC 6962, section 2.1). Up to `threads` threads hash, with memory
+    /// from `workers`. It fails only if allocation fails.
     pub(crate) fn root<H: Threads + Sync, B: Allocator + Copy + Send>(
         &self,
         rt: &H,

@@ -1,4 +1,4 @@
-//! A text of lines, and where each 256th of them ends: where it is cut after some of them is found near the cut.
+//! A text of lines with a mark at the end of each 256th, from which a cut after any number of lines is found.
 
 ghost use Rattle.std.specs.Prelude.{◌≡◌, ◌+◌, ◌*◌, ◌≤◌, ◌∷◌, length, take, drop, slice_index};
 ghost use Rattle.tl_command.specs.Inner.Cuts.{AreMarks, AreWholeLines};
@@ -6,8 +6,8 @@ ghost use Rattle.tl_command.specs.Lines.{entries_of};
 
 use crate::text::{TILE, lines_end};
 
-/// A text of lines, and the places where the first 256 of them end, the first 512, and so on: each less the base. There
-/// may be fewer places than tiles.
+/// A text of lines, and the places where its first 256 lines end, its first 512, and so on. Each place has the base
+/// added. There may be fewer places than tiles of lines.
 #[derive(Drop)]
 pub(crate) struct MarkedText<'a> {
     pub(crate) text: &'a [u8],
@@ -16,7 +16,7 @@ pub(crate) struct MarkedText<'a> {
 }
 
 impl<'a> MarkedText<'a> {
-    // The place where the lines of so many tiles end, with the base.
+    // Returns the place where the lines of this many tiles end, with the base added.
     fn mark(&self, tiles: usize) -> usize
         requires { tiles ≤ length self.now.ends.now }
         ensures { result ≡ slice_index (self.now.base ∷ self.now.ends.now) tiles }
@@ -27,7 +27,7 @@ impl<'a> MarkedText<'a> {
         self.ends[tiles - 1]
     }
 
-    // How many bytes the lines of so many tiles have.
+    // Returns how many bytes the lines of this many tiles have.
     fn tiles_end(&self, tiles: usize) -> usize
         requires noted { tiles ≤ length self.now.ends.now }
         requires marks { AreMarks self.now.text.now self.now.base self.now.ends.now }
@@ -39,7 +39,7 @@ impl<'a> MarkedText<'a> {
         self.mark(tiles) - self.base
     }
 
-    // The lines of so many tiles, and those after them. Each part has its places.
+    // Returns the lines of this many tiles, and those after them. Each part keeps its places.
     fn cut_at(&self, tiles: usize) -> (MarkedText<'a>, MarkedText<'a>)
         requires noted { tiles ≤ length self.now.ends.now }
         requires marks { AreMarks self.now.text.now self.now.base self.now.ends.now }
@@ -67,8 +67,8 @@ impl<'a> MarkedText<'a> {
         (first, others)
     }
 
-    // The text up to a place behind the lines of so many tiles, and what follows it. The first part has its places, the
-    // other has none.
+    // Returns the text up to `at`, which isn't before the end of the lines of this many tiles, and the rest. The
+    // first part keeps the places of these tiles, the second has none.
     fn cut_behind(&self, tiles: usize, at: usize) -> (MarkedText<'a>, MarkedText<'a>)
         requires noted { tiles ≤ length self.now.ends.now }
         requires marks { AreMarks self.now.text.now self.now.base self.now.ends.now }
@@ -94,9 +94,9 @@ impl<'a> MarkedText<'a> {
         (first, others)
     }
 
-    /// The first `count` lines, or all where they are fewer, and those after them. Newlines are looked for from the
-    /// last place at or before the cut. The first part keeps the places that lie in it, the other those behind a cut
-    /// that is such a place, and else none.
+    /// Returns the first `count` lines, or all of them if there are fewer, and the lines after these. It looks for
+    /// newlines from the last noted place at or before the cut. The first part keeps the places that lie in it. The
+    /// second keeps the others if the cut is at a noted place, else none.
     pub(crate) fn split(&self, count: usize) -> (MarkedText<'a>, MarkedText<'a>)
         requires { AreMarks self.now.text.now self.now.base self.now.ends.now }
         ensures front { entries_of result.0.text.now ≡ take count (entries_of self.now.text.now) }

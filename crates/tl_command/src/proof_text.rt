@@ -1,4 +1,4 @@
-//! Inclusion and consistency proofs with what they are about, as their texts have them.
+//! The texts of inclusion and consistency proofs, written and read.
 
 ghost use Rattle.std.specs.Prelude.{◌≡◌, ◌≢◌, ◌<◌, ◌∷◌, ◌++◌, length, map, vec_items, IfOk, IfSome, OnErr, OnOk, MatchOption};
 ghost use Rattle.tl_command.specs.ProofText.{Inclusion, IsInclusion, inclusion_lines, Consistency, IsConsistency, consistency_lines, inclusion_text, consistency_text};
@@ -13,7 +13,7 @@ use itoa::Buffer;
 use std::alloc::{AllocError, Allocator};
 use tl_hash::Hash;
 
-/// An inclusion proof, and the leaf, the place and the tree that it is about.
+/// An inclusion proof, with the leaf, the index and the tree that it is about.
 #[derive(Drop)]
 pub struct InclusionProof<A: Allocator> {
     /// The entry's index, counted from 0.
@@ -28,22 +28,22 @@ pub struct InclusionProof<A: Allocator> {
     pub proof: Vec<Hash, A>,
 }
 
-/// A consistency proof, and the two trees that it is about.
+/// A consistency proof, with the two trees that it is about.
 #[derive(Drop)]
 pub struct ConsistencyProof<A: Allocator> {
     /// The number of entries of the old tree.
     pub old: u64,
-    /// Its root.
+    /// The root of the old tree.
     pub old_root: Hash,
     /// The number of entries of the new tree.
     pub size: u64,
-    /// Its root.
+    /// The root of the new tree.
     pub root: Hash,
     /// The hashes of the proof, in the order of RFC 6962, section 2.1.2.
     pub proof: Vec<Hash, A>,
 }
 
-// The lines of a proof's text: its kind, four of what it is about, and those after them.
+// The lines of a proof's text: its kind, four lines that say what it is about, and its hashes.
 #[derive(Drop)]
 struct ProofLines<'a, B: Allocator> {
     kind: &'a [u8],
@@ -54,7 +54,7 @@ struct ProofLines<'a, B: Allocator> {
     hashes: &'a [Vec<u8, B>],
 }
 
-// These lines as those of a proof's text, where there are so many.
+// Returns the lines by their part in a proof's text, or None if there are fewer than five.
 fn proof_lines_of<'a, B: Allocator>(lines: &'a [Vec<u8, B>]) -> Option<ProofLines<'a, B>>
     ensures parts { MatchOption result (length lines.now < 5)
         (λ p. map vec_items lines.now ≡ p.kind.now
@@ -74,7 +74,8 @@ fn proof_lines_of<'a, B: Allocator>(lines: &'a [Vec<u8, B>]) -> Option<ProofLine
     })
 }
 
-/// The inclusion proof of which these are the lines.
+/// Returns the inclusion proof whose text has these lines, without their newlines, or None if they are no such
+/// proof's. It fails only if allocation fails.
 pub(crate) fn read_inclusion<A: Allocator + Copy, B: Allocator>(
     alloc: A,
     lines: &[Vec<u8, B>],
@@ -108,8 +109,8 @@ pub(crate) fn read_inclusion<A: Allocator + Copy, B: Allocator>(
     }))
 }
 
-/// Returns the consistency proof of which these are the lines, without their newlines, or None if they are those of
-/// none. It fails only if allocation fails.
+/// Returns the consistency proof whose text has these lines, without their newlines, or None if they are no such
+/// proof's. It fails only if allocation fails.
 pub fn read_consistency<A: Allocator + Copy, B: Allocator>(
     alloc: A,
     lines: &[Vec<u8, B>],
@@ -144,7 +145,7 @@ pub fn read_consistency<A: Allocator + Copy, B: Allocator>(
     }))
 }
 
-// Appends a line: a word, and what follows it.
+// Appends a line of a word and a text.
 fn push_line<A: Allocator>(out: &mut Vec<u8, A>, word: &str, text: &str) -> Result<(), AllocError>
     ensures { OnOk result (out.new.items ≡ out.old.items ++ line (word.now ++ text.now)) }
 {
@@ -154,7 +155,7 @@ fn push_line<A: Allocator>(out: &mut Vec<u8, A>, word: &str, text: &str) -> Resu
     Ok(())
 }
 
-// Appends a line: a word, and a number.
+// Appends a line of a word and a number.
 fn push_number<A: Allocator>(
     out: &mut Vec<u8, A>,
     word: &str,
@@ -166,7 +167,7 @@ fn push_number<A: Allocator>(
     Ok(())
 }
 
-// Appends a line: a word, and a hash in base64.
+// Appends a line of a word and a hash in base64.
 fn push_hash<A: Allocator + Copy>(
     alloc: A,
     out: &mut Vec<u8, A>,
@@ -195,8 +196,8 @@ fn push_hashes<A: Allocator + Copy>(
     Ok(())
 }
 
-/// The text of an inclusion proof (RFC 6962, section 2.1.1), as `tlog check` reads it: a line `inclusion`, lines of
-/// what it is about, and its hashes, one a line. It fails only where a growth was refused.
+/// Returns the text of an inclusion proof (RFC 6962, section 2.1.1) as `tlog check` reads it: the line `inclusion`,
+/// lines that say what it is about, and its hashes, one a line. It fails only if allocation fails.
 pub fn inclusion_bytes<A: Allocator + Copy, B: Allocator>(
     alloc: A,
     p: &InclusionProof<B>,
@@ -213,8 +214,8 @@ pub fn inclusion_bytes<A: Allocator + Copy, B: Allocator>(
     Ok(out)
 }
 
-/// Returns the text of a consistency proof (RFC 6962, section 2.1.2), as `tlog check` reads it: a line `consistency`,
-/// lines of what it is about, and its hashes, one a line. It fails only if allocation fails.
+/// Returns the text of a consistency proof (RFC 6962, section 2.1.2) as `tlog check` reads it: the line
+/// `consistency`, lines that say what it is about, and its hashes, one a line. It fails only if allocation fails.
 pub fn consistency_bytes<A: Allocator + Copy, B: Allocator>(
     alloc: A,
     p: &ConsistencyProof<B>,

@@ -1,4 +1,4 @@
-//! A text of lines, taken apart without a copy: how many lines it has, and where some of them end.
+//! How many lines a text has and where the first of them end, found without a copy.
 
 ghost use Rattle.std.specs.Prelude.{◌≡◌, ◌≤◌, length, take, None, Some, IfErr, IfNone, IfOk, IfSome, OnOk};
 ghost use Rattle.tl_command.specs.Inner.Cuts.{AreWholeLines};
@@ -8,10 +8,11 @@ use crate::entries::first_entry;
 use memchr::memchr;
 use tl_tile::LONGEST_ENTRY;
 
-/// How many lines a tile has.
+/// The number of lines under a tile.
 pub(crate) const TILE: usize = 256;
 
-/// How many lines a text has. Where a line has more than 65,535 bytes, it is the place of the first such line.
+/// Returns the number of lines of a text, or as its error the index of the first line that has more than 65,535
+/// bytes.
 pub(crate) fn count_lines(text: &[u8]) -> Result<u64, u64>
     ensures count { IfOk result (λ count. count ≡ length (entries_of text.now)) }
     ensures short { OnOk result (first_too_long (entries_of text.now) ≡ None) }
@@ -31,7 +32,7 @@ pub(crate) fn count_lines(text: &[u8]) -> Result<u64, u64>
     Ok(count)
 }
 
-/// How many bytes the first `count` lines of a text have, each with its newline. None are given where the text has
+/// Returns how many bytes the first `count` lines of a text have, each with its newline, or None if the text has
 /// fewer newlines.
 pub(crate) fn lines_end(text: &[u8], count: usize) -> Option<usize>
     ensures within { IfSome result (λ end. end ≤ length text.now) }

@@ -1,4 +1,4 @@
-//! The whole lines at the beginning of a piece of input.
+//! Cuts the whole lines at the beginning of a piece of input.
 
 ghost use Rattle.std.specs.Prelude.{◌≡◌, [], ◌∷◌, length, map, IfNone, IfSome};
 ghost use Rattle.tl_command.specs.Inner.Cuts.{BeginsWithLines};
@@ -17,7 +17,8 @@ pub(crate) struct FourLines<'a> {
     pub(crate) rest: &'a [u8],
 }
 
-// The first line of a piece and what follows its newline, where the piece has one and the line isn't too long.
+// Returns the first line of a piece and what follows its newline, or None if the piece has no newline or the line is
+// too long.
 fn cut_line(piece: &[u8]) -> Option<(&[u8], &[u8])>
     ensures line { IfSome result (λ cut. BeginsWith piece.entry.now (cut.0.now ∷ []) cut.1.now) }
     ensures none { IfNone result (BeginsWithLines piece.entry.now 1 → ⊥) }
@@ -29,7 +30,7 @@ fn cut_line(piece: &[u8]) -> Option<(&[u8], &[u8])>
     Some((&piece[..end], &piece[end + 1..]))
 }
 
-/// The first four lines of a piece, where four whole lines stand there and none of them is too long.
+/// Returns the first four lines of a piece, or None if it doesn't begin with four whole lines that are short enough.
 pub(crate) fn cut_four(piece: &[u8]) -> Option<FourLines<'_>>
     ensures { IfSome result (λ four. BeginsWith piece.entry.now
         (four.first.now ∷ four.second.now ∷ four.third.now ∷ four.fourth.now ∷ []) four.rest.now) }
@@ -54,7 +55,7 @@ pub(crate) struct TileLines<'a> {
     pub(crate) rest: &'a [u8],
 }
 
-/// The first 256 lines of a piece, where as many whole lines stand there and none of them is too long.
+/// Returns the first 256 lines of a piece, or None if it doesn't begin with 256 whole lines that are short enough.
 pub(crate) fn cut_tile(piece: &[u8]) -> Option<TileLines<'_>>
     ensures begins { IfSome result (λ tile. BeginsWith piece.entry.now
         (map (λ line. line.now) tile.lines) tile.rest.now) }

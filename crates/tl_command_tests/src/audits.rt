@@ -1,4 +1,4 @@
-//! What `audit` prints of two lists that only a weak digest lets pass.
+//! What `audit` prints for two lists that only a weak digest accepts.
 
 use std::alloc::Global;
 use tl_command::run_audit;
@@ -6,14 +6,14 @@ use tl_device::Counted;
 use tl_run::RunFault;
 use tl_testing::SumDigest;
 
-// An audit of two lists whose first two entries are exchanged, and the two nodes of `a` and `b` that have one sum.
+// An audit of two lists whose first two entries are exchanged. The two nodes of `a` and `b` have one sum.
 const EXCHANGED: &[u8] =
     b"old 2\na\nb\nnew 3\nb\na\nc\nYwAAAAAAAAAAAAAAAAAAAAAAAAAAAAAAAAAAAAAAAAA=\n";
 
 const COLLISION: &[u8] =
     b"collision\n0161000000000000000000000000000000000000000000000000000000000000006200000000000000000000000000000000000000000000000000000000000000\n0162000000000000000000000000000000000000000000000000000000000000006100000000000000000000000000000000000000000000000000000000000000\n";
 
-// Whether an audit by the sum of bytes is refused with both nodes.
+// Reports whether an audit by the sum of bytes is refused with both nodes.
 fn is_refused(alloc: Global) -> bool {
     let mut reader = Counted::new(EXCHANGED);
     let mut writer = Counted::new(Vec::new(alloc));

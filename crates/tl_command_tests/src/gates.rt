@@ -38,8 +38,8 @@ impl Gate for Meeting {
     }
 }
 
-// Quiet options of `serve` with the demonstration key of the secret `s`, of a log of two lanes in memory, at any
-// address, at which it answers no connection.
+// Returns quiet options of `serve` with the demonstration key of the secret `s`, for a log of two lanes in memory, at
+// any address, where it answers no connection.
 fn serve_options(alloc: Global) -> Result<ServeOptions, AllocError> {
     let server = ListenOptions {
         listen: String::from_str(alloc, "127.0.0.1:0")?,
@@ -71,7 +71,7 @@ fn serve_options(alloc: Global) -> Result<ServeOptions, AllocError> {
     })
 }
 
-// Serves a log of two lanes that meet. Whether both saw the other, and the log ended well.
+// Serves a log of two lanes that meet, and reports whether both saw the other and the log ended well.
 fn is_met<H: Host + Net<Listener = TcpListener, Stream = TcpStream>>(
     rt: &H,
     alloc: Global,

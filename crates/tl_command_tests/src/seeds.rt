@@ -18,7 +18,7 @@ impl RandomSource for NoBytes {
     }
 }
 
-// How `keygen` ends by these random bytes, and the private text and the verifier's that it writes.
+// Returns the outcome of `keygen` with these random bytes, and the private and the verifier's text that it writes.
 fn new_key<H: RandomSource>(rt: &H, alloc: Global) -> (Result<(), RunFault>, Vec<u8>, Vec<u8>) {
     let mut writer = Counted::new(Vec::new(alloc));
     let mut errors = Counted::new(Vec::new(alloc));
@@ -32,7 +32,7 @@ fn new_key<H: RandomSource>(rt: &H, alloc: Global) -> (Result<(), RunFault>, Vec
     (ended, writer.into_inner(), errors.into_inner())
 }
 
-// Whether `keygen` without random bytes is a read that failed, with nothing written.
+// Reports whether `keygen` without random bytes fails as a read does, with nothing written.
 fn is_key_refused(alloc: Global) -> bool {
     let (ended, private, verifier) = new_key(&NoBytes, alloc);
     ended == Err(RunFault::Read) && private.is_empty() && verifier.is_empty()
@@ -57,7 +57,7 @@ const PRIVATE: &[u8] =
 
 const VERIFIER: &[u8] = b"example.com/log+d455c521+AQOhB7/zzhC+HXDdGOdLwJln5NYwm6UNXx3chmQSVTG4\n";
 
-// Whether the seed of a new key is the 32 bytes that the system gives.
+// Reports whether the seed of a new key is the 32 bytes that the system gives.
 fn is_seed_given(alloc: Global) -> bool {
     let (ended, private, verifier) = new_key(&CountedBytes, alloc);
     ended == Ok(()) && private.as_slice() == PRIVATE && verifier.as_slice() == VERIFIER

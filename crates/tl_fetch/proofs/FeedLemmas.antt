@@ -1,4 +1,4 @@
--- What comes of bringing a log's checkpoint before witnesses, and what was printed before.
+-- Bringing a log's checkpoint before witnesses: how a run ends, and what was printed before.
 use Rattle.std.proofs.Common.{◌≡◌, ◌⊎◌, ◌++◌, ℕ, inl, inr, map, subst, sym, string_bytes, vec_items, List, String, Option, Some, None, Result, Ok, Err}
 use Rattle.std.specs.Global.{Global}
 use Rattle.tl_hash.specs.Bytes.{Bytes}

@@ -1,5 +1,5 @@
--- When a note was cosigned: a line has one time, and what holds of the lines and the keys follows from the first and the
--- others.
+-- When a note was cosigned: a line has one time, and what holds of the lines and the keys follows from the first and
+-- the others.
 use Rattle.std.proofs.Common.{◌≡◌, ◌∙◌, ◌⊎◌, ◌<◌, ◌≤◌, ◌^◌, ◌∷◌, [], ℕ, zero, suc, List, Bool, true, false, Option, Some, None, Result, Ok, Err, MatchBool, Contains, length, map, take, drop, get_or, inl, inr, refl, ap, sym, subst, arith}
 use Rattle.std.specs.Prelude.{IfOk, nat_le}
 use Rattle.std.specs.Int.{w64, to_be_bytes, from_be_bytes}

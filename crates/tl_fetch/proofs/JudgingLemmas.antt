@@ -52,7 +52,7 @@ apart_back a b shown (inl (none, two)) = inl (none, record { size = sym two.size
 apart_back a b shown (inr (p, lawful, is, inl leads)) = inr (p, lawful, is, inr leads)
 apart_back a b shown (inr (p, lawful, is, inr leads)) = inr (p, lawful, is, inl leads)
 
--- a growth that is refused as a fork, and what would show it isn't had
+-- a growth refused as a fork, without what would show it
 pub fork_at : (answers : Resource → Bytes → Type 0) (lacks : Resource → Type 0) (smaller larger : Head) (fault : ClientFault) → fault ≡ client.Forked
     → RefusesGrowth answers lacks smaller larger fault → IsFork sha256 smaller larger
 fork_at answers lacks smaller larger fault is refused = subst (λ (f : ClientFault). RefusesGrowth answers lacks smaller larger f) is refused

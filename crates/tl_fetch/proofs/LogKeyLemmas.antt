@@ -1,4 +1,4 @@
--- The keys of the log that are told, one or two.
+-- The keys of the log that the options name, one or two.
 use Rattle.std.proofs.Common.{◌≡◌, ◌∙◌, ◌⊎◌, ◌∷◌, [], ap, None, Option, Some, String, refl, sym, subst, arith, zero, suc, string_bytes}
 use Rattle.std.specs.Prelude.{◌≢◌, Contains, IsSomeAnd}
 use Rattle.std.specs.List.{Any}

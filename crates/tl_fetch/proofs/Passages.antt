@@ -10,7 +10,7 @@ use Rattle.tl_fetch.specs.Printed.{PrintedSome, PrintedWhole}
 abbrev pub joined : Passage → Passage → Passage
 joined o p = record { old = o.old; new = p.new; had_failed = o.had_failed; has_failed = p.has_failed }
 
--- one passage goes on where the other ended
+-- one passage goes on from the end of another
 pub record GoesOn (o p : Passage) : Type 0 where
   pub bytes : o.new ≡ p.old
   pub failed : o.has_failed ≡ p.had_failed

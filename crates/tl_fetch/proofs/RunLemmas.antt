@@ -28,7 +28,7 @@ use Rattle.tl_fetch.proofs.JudgingLemmas.{judged}
 use Rattle.tl_fetch.proofs.Passages.{GoesOn, joined, silent_both, silent_some, silent_whole}
 use Rattle.tl_fetch.specs.Printed.{FailsPrinting, IsBegun, IsWanted, PrintedSome, PrintedWhole, RefusesWanted}
 
--- all that is wanted is a beginning of it
+-- all that is asked for is a beginning of it
 pub whole_begun : (origin : Bytes) (known : ℕ) (head : Head) (what : FetchRequest) (text : Bytes) → IsWanted origin known head what text → IsBegun origin known head what text
 whole_begun origin known head wanted.Head text is = is
 whole_begun origin known head (wanted.Entry index) text is = is
@@ -78,7 +78,7 @@ pub refused_two : (grounds marks : Grounds) (policy : Policy) (what : FetchReque
     → JudgesTwo grounds.answers grounds.lacks two fault o → RefusesFetch grounds marks policy what fault o
 refused_two grounds marks policy what two fault o are refused = inr (two, are, inl (judged grounds policy two fault o are.known are.trusted refused))
 
--- what is wanted, but not all, after it was kept
+-- what is asked for, but not all entries, after the note was kept
 pub other_printed : (may_have : Option Bytes → Type 0) (has_kept : Bytes → Type 0) (policy : Policy) (two : Two) (what : FetchRequest) (r : Result (Unit {0}) FetchFault) (o : Passage)
     → (what ≡ wanted.All → ⊥) → OnOk r (PrintedWhole (IsWanted policy.origin two.old.size two.new what) o) → OnOk r (HasPrinted may_have has_kept policy two what o)
 other_printed may_have has_kept policy two what (Err fault) o other printed = tt
@@ -203,7 +203,7 @@ pub are_two : (may_have : Option Bytes → Type 0) (policy : Policy) (last kept 
 are_two may_have policy last kept old new read note same_last same_note had known trusted =
     record { had = subst may_have (sym same_last) had; known = subst (λ (l : Option Bytes). IsKnown policy l old) (sym same_last) known; trusted = subst (λ (n : Bytes). IsNoteOf policy n new) same_note trusted }
 
--- a run of which not all is wanted doesn't ask how far all entries were printed
+-- a run that isn't asked for all entries doesn't read up to where they were printed
 unread : (grounds marks others : Grounds) (policy : Policy) (what : FetchRequest) (two : Two) (fault : FetchFault) (o : Passage) → (what ≡ wanted.All → ⊥)
     → RefusesGrown grounds marks policy what two fault o → RefusesGrown grounds others policy what two fault o
 unread grounds marks others policy wanted.Head two fault o other f = f
@@ -235,7 +235,7 @@ any_printed may_have has_kept policy two (wanted.Raw index) o printed = printed
 any_printed may_have has_kept policy two wanted.All o (last, old, marked, printed, kept) = (last, old, marked, printed, tt)
 any_printed may_have has_kept policy two (wanted.Proof index) o printed = printed
 
--- how a run ends with a state of which nobody sees what it keeps, and such a file beside it, or none that is read
+-- how a run ends with a state whose contents nobody sees, and a file of that kind beside it, or none that is read
 pub runs_with : (answers : Resource → Bytes → Type 0) (lacks : Resource → Type 0) (has : Option Bytes → Type 0) (fails : FetchFault → Type 0) (kept marked : Bytes → Type 0) (policy : Policy) (what : FetchRequest) (r : Result (Unit {0}) FetchFault) (o : Passage)
     → OnOk r (HasFetched (record { may_have = has; has_kept = kept }) (record { may_have = has; has_kept = marked }) policy what o)
     → IfErr r (λ fault. RefusesFetch (grounds_of answers lacks has fails) (grounds_of answers lacks has fails) policy what fault o)

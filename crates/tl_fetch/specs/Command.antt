@@ -30,7 +30,7 @@ use Rattle.tl_fetch.specs.Fetching.{Grounds, HasFetched, RefusesFetch, Store, gr
 abbrev pub public_keys : List PublicKey → List Bytes
 public_keys keys = map (λ k. k.key) keys
 
--- the texts that are told as those of the log's keys, one or two
+-- the texts of the log's keys, one or two
 abbrev pub other_texts : {A : Type 0} → Option (String A) → List Bytes
 other_texts None = []
 other_texts (Some text) = string_bytes text ∷ []
@@ -46,27 +46,27 @@ HaveLogKeys name (text ∷ texts) [] = ⊥
 HaveLogKeys name (text ∷ texts) (k ∷ keys) =
     IsVerifierText note_kind text k × (k.name ≡ name) × ¬ (Contains (public_keys keys) k.key) × HaveLogKeys name texts keys
 
--- the texts that are told as those of the witnesses' keys, and the one at a place
+-- the texts of the witnesses' keys, and the text with an index
 abbrev pub witness_texts : FetchOptions → List Bytes
 witness_texts options = map string_bytes (vec_items options.witnesses)
 
 abbrev pub witness_text : FetchOptions → ℕ → Bytes
 witness_text options place = slice_index_or (witness_texts options) place []
 
--- each text is of a witness's key, whose public key is neither one of these nor that of a text before it
+-- each text is a witness's key, whose public key is neither one of these nor that of a text before it
 abbrev pub HaveOwnKeys : List Bytes → List Bytes → Type 0
 HaveOwnKeys others [] = Unit {0}
 HaveOwnKeys others (text ∷ texts) =
     (k : PublicKey) × IsVerifierText cosignature_kind text k × ¬ (Contains others k.key)
     × HaveOwnKeys (others ++ k.key ∷ []) texts
 
--- from when on a cosignature is fresh: so many seconds before what the clock read, if that is asked for
+-- the time from which on a cosignature is fresh: this many seconds before what the clock read, if that is asked for
 abbrev pub IsSinceOf : Option ℕ → Option ℕ → Type 0
 IsSinceOf None since = since ≡ None
 IsSinceOf (Some seconds) since = (now : ℕ) × (since ≡ Some (now - seconds))
 
--- whose checkpoints are trusted: the log's, by one of the keys that were told, where so many witnesses cosigned them, one
--- of them lately enough; no two of their keys are one public key, and none is the log's
+-- the policy of these options: a checkpoint is trusted if one of the log's keys signed it, and this many witnesses
+-- cosigned it, one of them lately enough; no two of the keys are one public key, and no witness has a key of the log
 pub record IsPolicyOf (options : FetchOptions) (policy : Policy) : Type 0 where
   pub keys : List PublicKey
   pub spelled : HaveLogKeys policy.origin (log_texts options) keys
@@ -75,9 +75,9 @@ pub record IsPolicyOf (options : FetchOptions) (policy : Policy) : Type 0 where
   pub since : IsSinceOf options.fresh policy.since
   pub own : HaveOwnKeys (public_keys keys) (witness_texts options)
 
--- ---- what a run stands on
+-- ---- the grounds of a run
 
--- where a log is read from: a text with a scheme is an address over HTTP, and all else a folder
+-- where a log is read from: a text with a scheme is an address over HTTP, any other is a folder
 abbrev pub HasScheme : Bytes → Type 0
 HasScheme text = (before : Bytes) × (after : Bytes) × (text ≡ before ++ (codes "://" ++ after))
 
@@ -85,7 +85,8 @@ abbrev pub IsOriginOf : Bytes → Origin → Type 0
 IsOriginOf from (Folder folder) = (folder ≡ from) × ¬ (HasScheme from)
 IsOriginOf from (Host url) = IsUrl from url.authority.now url.host.now url.port url.prefix.now
 
--- what may be answered and be lacking where tiles are kept in a folder: there any tile may be that isn't too long
+-- what may be answered and what may be lacking if tiles are kept in a folder: it may have any tile that isn't too
+-- long
 abbrev pub cached_answers : {A : Type 0} → Option A → (Resource → Bytes → Type 0) → Resource → Bytes → Type 0
 cached_answers None answers = answers
 cached_answers (Some folder) answers = may_answer_either (λ r text. length text ≤ most_bytes r) answers
@@ -94,34 +95,34 @@ abbrev pub cached_lacks : {A : Type 0} → Option A → (Resource → Type 0) �
 cached_lacks None lacks = lacks
 cached_lacks (Some folder) lacks = may_lack_both (λ r. Unit {0}) lacks
 
--- what the state may have: without a file nothing, and a file may have anything
+-- what the state may have: nothing without a file, and anything in a file
 abbrev pub may_have : {A : Type 0} → Option A → Option Bytes → Type 0
 may_have None had = had ≡ None
 may_have (Some path) had = Unit {0}
 
--- what is seen of the file of a state, and of the one beside it that says how far all entries were printed: not what
--- is kept there
+-- what is known of the file of a state, and of the file beside it that says up to where all entries were printed:
+-- nothing of what they keep
 abbrev pub file_of : {A : Type 0} → Option A → Store
 file_of state = record { may_have = may_have state; has_kept = λ note. Unit {0} }
 
--- a file of a state fails: the device, memory, or what is there is no text
+-- the file of a state fails: its device fails, memory runs out, or its bytes are no text
 abbrev pub IsStateFault : FetchFault → Type 0
 IsStateFault (Run (Device State why)) = Unit {0}
 IsStateFault (Run (BadCheckpoint State)) = Unit {0}
 IsStateFault (Run OutOfMemory) = Unit {0}
 IsStateFault fault = ⊥
 
--- a state fails only where it is in a file
+-- a state fails only if it is in a file
 abbrev pub state_fails : {A : Type 0} → Option A → FetchFault → Type 0
 state_fails None fault = ⊥
 state_fails (Some path) fault = IsStateFault fault
 
--- over a source that may answer these texts and may lack these resources
+-- the grounds over a source that may answer these texts and may lack these resources
 abbrev pub grounds_over : (Resource → Bytes → Type 0) → (Resource → Type 0) → FetchOptions → Grounds
 grounds_over answers lacks options = grounds_of answers lacks (may_have options.state) (state_fails options.state)
 
--- over the folder or the host, whose full tiles and bundles stand for partial ones that are gone, and over the tiles
--- that are kept of it
+-- the grounds over the folder or the host, whose full tiles and bundles stand for partial ones that are gone, and
+-- over its kept tiles
 abbrev pub run_grounds : Origin → FetchOptions → Grounds
 run_grounds origin options =
     grounds_over (cached_answers options.cache (may_answer_front (any_answers origin) (λ r. Unit {0})))
@@ -129,14 +130,14 @@ run_grounds origin options =
 
 -- ---- how a run ends
 
--- the fault that is told: where nothing more was known than that something isn't available, which resource it was, and
--- why
+-- the fault that is reported: if it was only known that something isn't available, it may name the resource and the
+-- reason
 abbrev pub IsToldAs : FetchFault → FetchFault → Type 0
 IsToldAs fault told =
     (told ≡ fault)
     ⊎ ((fault ≡ Unavailable) × ((r : Resource) × (why : DeviceFault) × (told ≡ Run (after_device (Source r) why))))
 
--- a run under a policy is refused: the address is none, and nothing is printed; or as `RefusesFetch` has it
+-- a run under a policy fails: the address is none, and nothing is printed; or as `RefusesFetch` says
 abbrev pub RefusesRun : Policy → FetchOptions → FetchFault → Passage → Type 0
 RefusesRun policy options told o =
     ((told ≡ BadAddress From) × HasScheme (string_bytes options.from) × IsNoUrl (string_bytes options.from) × IsUnwritten o)
@@ -155,7 +156,7 @@ IsLogKeyFault options BadKey = Any (λ text. IsNoVerifierText note_kind text) (l
 IsLogKeyFault options OutOfMemory = Unit {0}
 IsLogKeyFault options fault = ⊥
 
--- the second text is of a key of another name than the first one's, or of the same public key
+-- the second text is a key with another name than the first, or with the same public key
 pub record IsOtherKey (options : FetchOptions) : Type 0 where
   pub key : PublicKey
   pub other : PublicKey
@@ -163,17 +164,17 @@ pub record IsOtherKey (options : FetchOptions) : Type 0 where
   pub other_spelled : IsSomeAnd options.other_key (λ text. IsVerifierText note_kind (string_bytes text) other)
   pub differs : (other.name ≢ key.name) ⊎ (other.key ≡ key.key)
 
--- a text is of this public key
+-- the text is a key with this public key
 abbrev pub IsTextOf : ℕ → Bytes → Bytes → Type 0
 IsTextOf kind key text = (k : PublicKey) × IsVerifierText kind text k × (k.key ≡ key)
 
--- a public key is one of the log's, or that of the text of a witness before this one
+-- the public key is one of the log's, or that of a witness's text before this one
 abbrev pub IsEarlierKey : FetchOptions → ℕ → Bytes → Type 0
 IsEarlierKey options place key =
     Any (IsTextOf note_kind key) (log_texts options)
     ⊎ ((earlier : ℕ) × (earlier < place) × IsTextOf cosignature_kind key (witness_text options earlier))
 
--- a fault that comes before there is a policy: a text is of no key, or of one that was told before, or memory ran out
+-- a fault before there is a policy: a text is no key, or one that came before, or memory ran out
 abbrev pub IsKeyFault : FetchOptions → FetchFault → Type 0
 IsKeyFault options (Run fault) = IsLogKeyFault options fault
 IsKeyFault options OtherKey = IsOtherKey options
@@ -183,11 +184,11 @@ IsKeyFault options (SharedKey place) =
     (k : PublicKey) × IsVerifierText cosignature_kind (witness_text options place) k × IsEarlierKey options place k.key
 IsKeyFault options fault = ⊥
 
--- a run under the policy that the options tell
+-- a run under the policy that the options describe
 abbrev pub RunsAsTold : FetchOptions → Passage → Result (Unit {0}) FetchFault → Type 0
 RunsAsTold options o result = (policy : Policy) × IsPolicyOf options policy × RunsUnder policy options o result
 
--- a run: where a text is of no key, or of one that was told before, nothing is printed
+-- a run of `fetch`: if a text is no key, or one that came before, nothing is printed
 abbrev pub RunsFetch : FetchOptions → Passage → Result (Unit {0}) FetchFault → Type 0
 RunsFetch options o (Ok done) = RunsAsTold options o (Ok done)
 RunsFetch options o (Err fault) = RunsAsTold options o (Err fault) ⊎ (IsKeyFault options fault × IsUnwritten o)

@@ -1,4 +1,4 @@
--- What a fault of the command `fetch` prints, and its exit status.
+-- What a fault of `fetch` or `feed` prints, and its exit status.
 use Rattle.std.specs.Prelude.{ℕ, ◌++◌, [], Bool, true, false, codes, Option, Some}
 use Rattle.tl_hash.specs.Bytes.{Bytes}
 use Rattle.tl_text.specs.Text.{number_text}
@@ -6,12 +6,12 @@ use Rattle.tl_run.specs.Faults.{exit_status, fault_text, fault_words}
 use Rattle.tl_fetch.specs.declared.fault.FetchFault.{FetchFault}
 use Rattle.tl_fetch.specs.declared.fault.FetchFault.TheVariants.{Run, BadAddress, OtherKey, BadWitness, SharedKey, Unavailable, OtherLog, TooFew, Stale, BadTile, BadBundle, BadEntry, Older, Forked}
 
--- what is said behind an older checkpoint: nothing more if it was compared
+-- the words behind an older checkpoint: none if it was compared
 abbrev pub uncompared_words : Bool → Bytes
 uncompared_words true = []
 uncompared_words false = codes " (not compared)"
 
--- what it says
+-- the words for a fault
 abbrev pub fetch_words : FetchFault → Bytes
 fetch_words (Run fault) = fault_words fault
 fetch_words (BadAddress which) = codes "bad address"
@@ -35,8 +35,8 @@ abbrev pub fetch_text : FetchFault → Option Bytes
 fetch_text (Run fault) = fault_text fault
 fetch_text fault = Some (codes "tlog: " ++ fetch_words fault)
 
--- the exit status: 4 where the log forked, 3 where a device failed, a source didn't answer or has an older checkpoint,
--- or one that isn't fresh, else 1
+-- the exit status: 4 if the log forked; 3 if a device failed, or a source didn't answer, or its checkpoint is older
+-- or not fresh; else 1
 abbrev pub fetch_status : FetchFault → ℕ
 fetch_status (Run fault) = exit_status fault
 fetch_status Unavailable = 3

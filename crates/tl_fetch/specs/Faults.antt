@@ -1,4 +1,4 @@
--- Faults of checks, as those of the command.
+-- Faults of checks as faults of the command.
 use Rattle.tl_note.specs.declared.fault.NoteFault.{NoteFault}
 use Rattle.tl_note.specs.declared.fault.NoteFault.TheVariants as note
 use Rattle.tl_client.specs.declared.fault.ClientFault.{ClientFault}
@@ -13,7 +13,7 @@ use Rattle.tl_run.specs.declared.fault.RunFault.TheVariants as run
 use Rattle.tl_fetch.specs.declared.fault.FetchFault.{FetchFault}
 use Rattle.tl_fetch.specs.declared.fault.FetchFault.TheVariants as fetch
 
--- a check that refuses; that a growth is refused is told by evidence alone
+-- the fault for a failed check; only evidence says that the log forked
 abbrev pub after_client : ClientFault → FetchFault
 after_client client.Range = fetch.Run run.BadIndex
 after_client client.Unavailable = fetch.Unavailable
@@ -24,16 +24,16 @@ after_client client.Shrunk = fetch.Unavailable
 after_client client.Forked = fetch.Unavailable
 after_client client.OutOfMemory = fetch.Run run.OutOfMemory
 
--- what the source has for the checkpoint is none
+-- the source's bytes for the checkpoint are no checkpoint
 abbrev pub bad_checkpoint : RunFault
 bad_checkpoint = run.BadCheckpoint (place.Source resource.Checkpoint)
 
--- a checkpoint that doesn't open as a note
+-- the fault for a checkpoint that doesn't open as a note
 abbrev pub after_unopened : NoteFault → RunFault
 after_unopened note.Malformed = bad_checkpoint
 after_unopened fault = after_note fault
 
--- a checkpoint that isn't trusted
+-- the fault for a checkpoint that isn't trusted
 abbrev pub after_head : HeadFault → FetchFault
 after_head (head.Unopened fault) = fetch.Run (after_unopened fault)
 after_head (head.NoCheckpoint fault) = fetch.Run bad_checkpoint

@@ -16,29 +16,29 @@ use Rattle.tl_fetch.specs.Feeding.{HasFed, RefusesFeed}
 use Rattle.tl_fetch.specs.Fetching.{Grounds}
 use Rattle.tl_fetch.specs.Trusting.{AreTwo, Policy, Two, alone}
 
--- of these texts, the one at this place is the first that is no address
+-- the text with this index is the first of these that is no address
 pub record IsFirstNoUrl (texts : List Bytes) (place : ℕ) : Type 0 where
   pub within : place < length texts
   pub none : IsNoUrl (slice_index_or texts place [])
   pub earlier : (before : ℕ) → before < place → ¬ (IsNoUrl (slice_index_or texts before []))
 
--- the texts that are told as the witnesses' addresses
+-- the texts of the witnesses' addresses
 abbrev pub address_texts : FeedOptions → List Bytes
 address_texts options = map string_bytes (vec_items options.to)
 
--- the text that the log is read from has a scheme and is no address, or that of a witness is none; or memory ran out
+-- the text that the log is read from has a scheme and is no address, or a witness's text is none; or memory ran out
 abbrev pub IsAddressFault : FeedOptions → FetchFault → Type 0
 IsAddressFault options fault =
     ((fault ≡ BadAddress From) × HasScheme (string_bytes options.log.from) × IsNoUrl (string_bytes options.log.from))
     ⊎ (((place : ℕ) × (fault ≡ BadAddress (To place)) × IsFirstNoUrl (address_texts options) place)
     ⊎ (fault ≡ Run OutOfMemory))
 
--- over the folder or the host, whose full tiles and bundles stand for partial ones that are gone
+-- the grounds over the folder or the host, whose full tiles and bundles stand for partial ones that are gone
 abbrev pub feed_grounds : Origin → FetchOptions → Grounds
 feed_grounds origin options = grounds_over (may_answer_front (any_answers origin) (λ r. Unit {0})) (λ r. Unit {0}) options
 
 -- a run under a policy: two checkpoints are trusted, the state's and the source's, and the source's was fed; or an
--- address is none, and nothing is printed; or as `RefusesFeed` has it
+-- address is none, and nothing is printed; or it fails as `RefusesFeed` says
 abbrev pub RunsFeedUnder : Policy → FeedOptions → Passage → Result (Unit {0}) FetchFault → Type 0
 RunsFeedUnder policy options o (Ok done) =
     (two : Two) × AreTwo (may_have options.log.state) (alone policy) two × HasFed (λ note. Unit {0}) policy two o
@@ -47,11 +47,11 @@ RunsFeedUnder policy options o (Err told) =
     ⊎ ((origin : Origin) × IsOriginOf (string_bytes options.log.from) origin
     × ((fault : FetchFault) × IsToldAs fault told × RefusesFeed (feed_grounds origin options.log) policy fault o))
 
--- a run under the policy that the options tell
+-- a run under the policy that the options describe
 abbrev pub FeedsAsTold : FeedOptions → Passage → Result (Unit {0}) FetchFault → Type 0
 FeedsAsTold options o result = (policy : Policy) × IsPolicyOf options.log policy × RunsFeedUnder policy options o result
 
--- a run: where a text is of no key, or of one that was told before, nothing is printed
+-- a run of `feed`: if a text is no key, or one that came before, nothing is printed
 abbrev pub RunsFeed : FeedOptions → Passage → Result (Unit {0}) FetchFault → Type 0
 RunsFeed options o (Ok done) = FeedsAsTold options o (Ok done)
 RunsFeed options o (Err fault) = FeedsAsTold options o (Err fault) ⊎ (IsKeyFault options.log fault × IsUnwritten o)

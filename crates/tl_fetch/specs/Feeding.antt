@@ -1,4 +1,4 @@
--- What comes of bringing a log's checkpoint before witnesses (C2SP tlog-witness, tlog-cosignature).
+-- Bringing a log's checkpoint before witnesses (C2SP tlog-witness, tlog-cosignature).
 use Rattle.std.specs.Prelude.{◌≡◌, ◌⊎◌, ◌++◌}
 use Rattle.tl_hash.specs.Bytes.{Bytes}
 use Rattle.tl_hash.specs.declared.head.Head.{Head}
@@ -14,15 +14,15 @@ use Rattle.tl_fetch.specs.Trusting.{AreTwo, IsGrown, IsNoteOf, Policy, Two, alon
 
 -- ---- what is printed
 
--- the text is this note and more lines behind it; it is trusted, of the same log, size and root: so many of the
+-- the text is this note and more lines behind it, and it is trusted, of the same log, size and root: enough of the
 -- witnesses cosigned this very checkpoint
 pub record IsFedNote (policy : Policy) (note : Bytes) (head : Head) (text : Bytes) : Type 0 where
   pub lines : Bytes
   pub joined : text ≡ note ++ lines
   pub trusted : IsNoteOf policy text head
 
--- the source's note, which the log's key signed, goes on from the state's and is kept there, and was printed as enough
--- witnesses cosigned it
+-- the source's note, which the log's key signed, extends the state's and is kept there, and was printed with the
+-- lines of enough witnesses
 pub record HasFed (has_kept : Bytes → Type 0) (policy : Policy) (two : Two) (o : Passage) : Type 0 where
   pub grown : IsGrown two.old two.new
   pub kept : has_kept two.note
@@ -30,21 +30,21 @@ pub record HasFed (has_kept : Bytes → Type 0) (policy : Policy) (two : Two) (o
 
 -- ---- why nothing is printed, or not all
 
--- the note with what the witnesses answered isn't trusted, for a reason that is told as this; or memory ran out
+-- the note with the witnesses' lines isn't trusted, for a reason that has this fault; or memory ran out
 abbrev pub IsUnfed : Policy → Bytes → FetchFault → Type 0
 IsUnfed policy note fault =
     ((lines : Bytes) × RefusesNote policy (note ++ lines) fault)
     ⊎ ((fault ≡ Run OutOfMemory) ⊎ (fault ≡ Run bad_checkpoint))
 
--- the log goes on from what was known, and the state fails, it isn't cosigned by enough, or the writer fails
+-- the log extends what was known, and the state fails, not enough witnesses cosign, or the writer fails
 pub record RefusesFed (grounds : Grounds) (policy : Policy) (two : Two) (fault : FetchFault) (o : Passage) : Type 0 where
   pub grown : IsGrown two.old two.new
   pub why : grounds.fails fault ⊎ (IsUnfed policy two.note fault ⊎ (fault ≡ Run Write))
   pub fair : IsNoAccusation fault
   pub printed : PrintedSome (IsFedNote policy two.note two.new) o
 
--- as `RefusesFetch` has it: before there is trust, over two checkpoints of which one doesn't go on from the other, or
--- after that
+-- a run fails, as `RefusesFetch` says: before there is trust; or over two checkpoints of which one doesn't extend the
+-- other; or after that
 abbrev pub RefusesFeed : Grounds → Policy → FetchFault → Passage → Type 0
 RefusesFeed grounds policy fault o =
     (LacksTrust grounds (alone policy) fault × IsNoAccusation fault × IsUnwritten o)

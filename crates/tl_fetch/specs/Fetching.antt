@@ -1,4 +1,4 @@
--- What comes of fetching from a log that isn't trusted.
+-- Fetching from a log that isn't trusted.
 use Rattle.std.specs.Prelude.{◌≡◌, ◌⊎◌, ◌<◌, ◌≤◌, ℕ, true, false, Option, Some, None}
 use Rattle.tl_hash.specs.Bytes.{Bytes}
 use Rattle.tl_device.specs.Device.{Passage, IsUnwritten}
@@ -16,8 +16,8 @@ use Rattle.tl_fetch.specs.Opening.{RefusesCheckpoint, RefusesState}
 use Rattle.tl_fetch.specs.Trusting.{Policy, AreTwo, IsGrown, IsKnown, Two}
 use Rattle.tl_fetch.specs.Printed.{IsWanted, IsBegun, PrintedSome, PrintedWhole, RefusesWanted}
 
--- what a reader of a log stands on, and doesn't trust: which texts the source may answer for a resource, and which
--- resources it may lack; which note the state may have, and for which faults it may fail
+-- what a reader of a log relies on and doesn't trust: which texts the source may answer for a resource, and which
+-- resources it may lack; which note the state may have, and with which faults it may fail
 pub record Grounds : Type 1 where
   pub answers : Resource → Bytes → Type 0
   pub lacks : Resource → Type 0
@@ -27,21 +27,21 @@ pub record Grounds : Type 1 where
 abbrev pub grounds_of : (Resource → Bytes → Type 0) → (Resource → Type 0) → (Option Bytes → Type 0) → (FetchFault → Type 0) → Grounds
 grounds_of answers lacks has fails = record { answers = answers; lacks = lacks; has = has; fails = fails }
 
--- how far all entries were printed: the note that was trusted then, if there is one, and its head, from which the log
--- goes on
+-- up to where all entries were printed: the note that was trusted then, if there is one, and its head, which the log
+-- extends
 pub record IsMarked (may_have : Option Bytes → Type 0) (policy : Policy) (new : Head) (last : Option Bytes) (old : Head) : Type 0 where
   pub had : may_have last
   pub known : IsKnown policy last old
   pub grown : IsGrown old new
 
--- the first entry that is printed where all are wanted: the one behind those that were printed, and without a note of
--- these the one behind those of the state
+-- the first entry to print if all are asked for: the one behind those that were printed, or, without a note of these,
+-- behind those of the state
 abbrev pub first_wanted : Option Bytes → Head → Head → ℕ
 first_wanted None marked known = known.size
 first_wanted (Some note) marked known = marked.size
 
--- what is wanted was printed; where it is all entries, from the first that wasn't yet, and the new note is kept as that
--- of what was printed
+-- what was asked for was printed. If that is all entries, they start with the first that wasn't printed yet, and the
+-- new note is kept as that of what was printed
 abbrev pub HasPrinted : (Option Bytes → Type 0) → (Bytes → Type 0) → Policy → Two → FetchRequest → Passage → Type 0
 HasPrinted may_have has_kept policy two wanted.All o =
     (last : Option Bytes) × (old : Head) × IsMarked may_have policy two.new last old
@@ -50,13 +50,12 @@ HasPrinted may_have has_kept policy two wanted.All o =
 HasPrinted may_have has_kept policy two what o =
     PrintedWhole (IsWanted policy.origin two.old.size two.new what) o
 
--- who keeps a note: which one it may have had, and which it has kept
+-- a store of a note: which one it may have had, and which it has kept
 pub record Store : Type 1 where
   pub may_have : Option Bytes → Type 0
   pub has_kept : Bytes → Type 0
 
--- what is wanted was printed of a log that is trusted, and that goes on from what was known; and its note is what the
--- state has kept
+-- what was asked for was printed of a log that is trusted and extends what was known, and the state has kept its note
 pub record HasFetched (state marks : Store) (policy : Policy) (what : FetchRequest) (o : Passage) : Type 0 where
   pub two : Two
   pub are : AreTwo state.may_have policy two
@@ -64,27 +63,27 @@ pub record HasFetched (state marks : Store) (policy : Policy) (what : FetchReque
   pub printed : HasPrinted marks.may_have marks.has_kept policy two what o
   pub kept : state.has_kept two.note
 
--- ---- why nothing is fetched, or not all
+-- ---- why nothing is fetched, or not all of it
 
--- the note that was kept last gives no size and root: it isn't read, or it isn't the log's
+-- the note that was kept last gives no size and root: it can't be read, or it isn't the log's
 abbrev pub LacksLast : (FetchFault → Type 0) → (Option Bytes → Type 0) → Policy → FetchFault → Type 0
 LacksLast fails has policy fault = fails fault ⊎ ((last : Option Bytes) × has last × RefusesState policy last fault)
 
--- before there is trust: the state gives nothing, or the source no checkpoint that is trusted
+-- there is no trust: the state gives nothing, or the source no checkpoint that is trusted
 abbrev pub LacksTrust : Grounds → Policy → FetchFault → Type 0
 LacksTrust grounds policy fault =
     LacksLast grounds.fails grounds.has policy fault ⊎ RefusesCheckpoint grounds.answers grounds.lacks policy fault
 
--- the log is accused by evidence, and that was printed, or some of it until the writer failed; or, where no note was
--- trusted before, the new one is of no log, and nobody is accused
+-- evidence accuses the log, and was printed, or some of it until the writer failed; or no note was trusted before,
+-- the new checkpoint is of no log, and nobody is accused
 abbrev pub IsAccusation : Policy → Two → FetchFault → Passage → Type 0
 IsAccusation policy two fault o =
     ((fault ≡ Forked) × PrintedWhole (IsEvidenceOf policy two) o)
     ⊎ (((fault ≡ Run Write) × ((text : Bytes) × IsEvidenceOf policy two text × PrintedSome (λ t. t ≡ text) o))
     ⊎ ((two.last ≡ None) × IsOfNoLog two.new × (fault ≡ Run bad_checkpoint) × IsUnwritten o))
 
--- nobody is accused: the new checkpoint is smaller and shown to be older, or not compared with the other; or it can't be
--- judged, for the reason of a check
+-- nobody is accused: the new checkpoint is smaller, and is shown to be older or wasn't compared with the other; or
+-- the two can't be judged, for the reason of a check
 abbrev pub IsUnaccused : (Resource → Bytes → Type 0) → (Resource → Type 0) → Two → FetchFault → Type 0
 IsUnaccused answers lacks two (Older size of true) =
     (size ≡ two.new.size) × (of ≡ two.old.size) × (size < of) × IsGrown two.new two.old
@@ -95,23 +94,23 @@ IsUnaccused answers lacks two fault =
     (two.old.size ≤ two.new.size)
     × ((why : ClientFault) × RefusesComparison answers lacks two.old two.new why × (fault ≡ after_client why))
 
--- one of two checkpoints doesn't go on from the other
+-- one of two checkpoints doesn't extend the other
 abbrev pub RefusesTwo : Grounds → Policy → Two → FetchFault → Passage → Type 0
 RefusesTwo grounds policy two fault o =
     IsAccusation policy two fault o ⊎ (IsUnaccused grounds.answers grounds.lacks two fault × IsUnwritten o)
 
--- the log goes on from what was known, and what is wanted isn't printed whole, or a note isn't kept
+-- the log extends what was known, and what was asked for isn't printed whole, or a note isn't kept
 pub record FailsGrown (grounds : Grounds) (fails : FetchFault → Type 0) (policy : Policy) (what : FetchRequest) (known : ℕ) (head : Head) (fault : FetchFault) (o : Passage) : Type 0 where
   pub why : fails fault ⊎ RefusesWanted grounds.answers grounds.lacks known head what fault
   pub fair : IsNoAccusation fault
   pub printed : PrintedSome (IsBegun policy.origin known head what) o
 
--- the same two checkpoints, from the one up to which all entries were printed
+-- the same checkpoint, compared with the one up to which all entries were printed
 abbrev pub since : Two → Option Bytes → Head → Two
 since two last old = record { last = last; old = old; note = two.note; new = two.new }
 
--- the log goes on from what was known, and what is wanted isn't printed; where it is all entries, since it isn't known
--- how far they were printed, or the log doesn't go on from there, or after that
+-- the log extends what was known, and what was asked for isn't printed whole. If that is all entries, this is because
+-- it isn't known up to where they were printed, or the log doesn't extend that, or a later step fails
 abbrev pub RefusesGrown : Grounds → Grounds → Policy → FetchRequest → Two → FetchFault → Passage → Type 0
 RefusesGrown grounds marks policy wanted.All two fault o =
     (LacksLast marks.fails marks.has policy fault × IsNoAccusation fault × IsUnwritten o)
@@ -122,8 +121,8 @@ RefusesGrown grounds marks policy wanted.All two fault o =
 RefusesGrown grounds marks policy what two fault o =
     FailsGrown grounds grounds.fails policy what two.old.size two.new fault o
 
--- a fault comes before there is trust, and nothing is printed; or over two trusted checkpoints, since one doesn't go on
--- from the other, or after that
+-- a run fails: before there is trust, and nothing is printed; or over two trusted checkpoints, because one doesn't
+-- extend the other, or after that
 abbrev pub RefusesFetch : Grounds → Grounds → Policy → FetchRequest → FetchFault → Passage → Type 0
 RefusesFetch grounds marks policy what fault o =
     (LacksTrust grounds policy fault × IsNoAccusation fault × IsUnwritten o)

@@ -17,18 +17,18 @@ use Rattle.tl_fetch.specs.declared.fault.FetchFault.TheVariants.{Run, OtherLog, 
 use Rattle.tl_fetch.specs.Faults.{after_head, bad_checkpoint}
 use Rattle.tl_fetch.specs.Trusting.{Policy, alone}
 
--- a note that is trusted, of a log with another name
+-- the note is trusted, and of a log with another name
 pub record IsOfOther (policy : Policy) (note : Bytes) : Type 0 where
   pub checkpoint : checkpoint.Head
   pub trusted : IsTrusted note policy.trust checkpoint
   pub other : checkpoint.origin ≢ policy.origin
 
--- a note that isn't trusted, for a reason that is told as this
+-- the note isn't trusted, for a reason that has this fault
 abbrev pub IsUntrusted : Policy → Bytes → FetchFault → Type 0
 IsUntrusted policy note fault =
     (why : HeadFault) × OpensHead {A = Global} note policy.trust (Err why) × (fault ≡ after_head why)
 
--- a note that is trusted but for its age: each cosignature by one of the witnesses is of a time before this one
+-- the note is trusted but for its age: each cosignature by one of the witnesses is of an earlier time than this
 pub record IsStale (policy : Policy) (note : Bytes) (since : ℕ) : Type 0 where
   pub checkpoint : checkpoint.Head
   pub trusted : IsTrusted note policy.trust checkpoint
@@ -39,13 +39,13 @@ pub record IsStale (policy : Policy) (note : Bytes) (since : ℕ) : Type 0 where
   pub noted : Note note text lines
   pub early : (key : Key) (line : Signature) (time : ℕ) → Contains policy.trust.witnesses key → Contains lines line → IsCosignature text key line time → time < since
 
--- why there is no size and root
+-- why a note gives no size and root
 abbrev pub RefusesNote : Policy → Bytes → FetchFault → Type 0
 RefusesNote policy note fault =
     ((fault ≡ OtherLog) × IsOfOther policy note)
     ⊎ (IsUntrusted policy note fault ⊎ ((since : ℕ) × (fault ≡ Stale since) × IsStale policy note since))
 
--- what is told where a state's note gives no size and root
+-- the fault if a state's note gives no size and root
 abbrev pub after_state : FetchFault → FetchFault
 after_state (Run OutOfMemory) = Run OutOfMemory
 after_state fault = Run (BadCheckpoint State)
@@ -55,12 +55,12 @@ abbrev pub RefusesState : Policy → Option Bytes → FetchFault → Type 0
 RefusesState policy None fault = ⊥
 RefusesState policy (Some note) fault = (why : FetchFault) × RefusesNote (alone policy) note why × (fault ≡ after_state why)
 
--- bytes that a source has for the checkpoint are no text, or a note that isn't trusted
+-- the source's bytes for the checkpoint are no text, or a note that isn't trusted
 abbrev pub RefusesBytes : Policy → Bytes → FetchFault → Type 0
 RefusesBytes policy bytes fault = (¬ (IsUtf8 bytes) × (fault ≡ Run bad_checkpoint)) ⊎ RefusesNote policy bytes fault
 
 -- a source that may answer these texts and may lack these resources gives no checkpoint that is trusted: it lacks it,
--- memory ran out, or what it gives is refused
+-- memory ran out, or its bytes are refused
 abbrev pub RefusesCheckpoint : (Resource → Bytes → Type 0) → (Resource → Type 0) → Policy → FetchFault → Type 0
 RefusesCheckpoint answers lacks policy fault =
     ((fault ≡ Unavailable) × lacks Checkpoint)

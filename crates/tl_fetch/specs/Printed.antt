@@ -19,7 +19,7 @@ use Rattle.tl_hash.specs.declared.head.Head.{Head}
 use Rattle.tl_fetch.specs.Faults.{after_client}
 use Rattle.tl_fetch.specs.Entries.{IsCheckedEntry, AreLinesBetween, RefusesBundle, RefusesOne, RefusesProof}
 
--- lines: the log's name, its size and its root
+-- the lines of the log's name, its size and its root
 abbrev pub head_text : Bytes → Head → Bytes
 head_text origin head = line origin ++ line (number_text head.size) ++ line (base64_text head.root)
 
@@ -27,7 +27,7 @@ head_text origin head = line origin ++ line (number_text head.size) ++ line (bas
 abbrev pub IsEntryText : Head → ℕ → Bytes → Type 0
 IsEntryText head index text = (entry : Bytes) × IsCheckedEntry sha256 head index entry × (text ≡ line entry)
 
--- an inclusion proof of an entry that is accepted
+-- an accepted inclusion proof of an entry
 pub record IsProofOf (head : Head) (index : ℕ) (entry : Bytes) (p : Inclusion) : Type 0 where
   pub index_is : p.index ≡ index
   pub size_is : p.size ≡ head.size
@@ -43,8 +43,8 @@ pub record IsProofText (head : Head) (index : ℕ) (text : Bytes) : Type 0 where
   pub of : IsProofOf head index entry proof
   pub is : text ≡ inclusion_text proof
 
--- what is wanted of a log of this name and head, of which so many entries were known: of all entries those from there
--- on
+-- what is asked for of a log of this name and head, of which `known` entries were known: if that is all entries,
+-- those from there on
 abbrev pub IsWanted : Bytes → ℕ → Head → FetchRequest → Bytes → Type 0
 IsWanted origin known head wanted.Head text = text ≡ head_text origin head
 IsWanted origin known head (wanted.Entry index) text = IsEntryText head index text
@@ -52,7 +52,7 @@ IsWanted origin known head (wanted.Raw index) text = IsCheckedEntry sha256 head 
 IsWanted origin known head wanted.All text = AreLinesBetween head known head.size text
 IsWanted origin known head (wanted.Proof index) text = IsProofText head index text
 
--- what may be printed of it before a fault comes: of all entries some of the first
+-- what may be printed before a fault: if all entries are asked for, some of the first
 abbrev pub IsBegun : Bytes → ℕ → Head → FetchRequest → Bytes → Type 0
 IsBegun origin known head wanted.All text = (upto : ℕ) × AreLinesBetween head known upto text
 IsBegun origin known head what text = IsWanted origin known head what text
@@ -67,17 +67,17 @@ PrintedSome Is o = IsUnwritten o ⊎ ((text : Bytes) × Is text × (count : ℕ)
 
 -- ---- why not all of it was printed
 
--- the writer failed, memory ran out, or a check refused for such a reason, which is told
+-- the writer failed, memory ran out, or a check failed for a reason that has this fault
 abbrev pub FailsPrinting : (ClientFault → Type 0) → FetchFault → Type 0
 FailsPrinting Why fault =
     (fault ≡ Run Write) ⊎ ((fault ≡ Run OutOfMemory) ⊎ ((why : ClientFault) × Why why × (fault ≡ after_client why)))
 
--- not all entries from this index on are printed: it is above the size, or a bundle isn't read
+-- not all entries from this index on are printed: it is above the size, or a bundle can't be read
 abbrev pub RefusesAll : (Resource → Bytes → Type 0) → (Resource → Type 0) → Head → ℕ → FetchFault → Type 0
 RefusesAll answers lacks head from fault =
     ((head.size < from) × (fault ≡ Run BadIndex)) ⊎ FailsPrinting (λ why. (bundle : ℕ) × RefusesBundle answers lacks head bundle why) fault
 
--- what is wanted of a log of which so many entries were known isn't printed whole, for this reason
+-- what is asked for of a log of which `known` entries were known isn't printed whole, for this reason
 abbrev pub RefusesWanted : (Resource → Bytes → Type 0) → (Resource → Type 0) → ℕ → Head → FetchRequest → FetchFault → Type 0
 RefusesWanted answers lacks known head wanted.Head fault = (fault ≡ Run Write) ⊎ (fault ≡ Run OutOfMemory)
 RefusesWanted answers lacks known head (wanted.Entry index) fault = FailsPrinting (RefusesOne answers lacks head index) fault

@@ -1,4 +1,4 @@
--- Checkpoints of a log that are trusted, and how what is trusted moves (C2SP tlog-checkpoint, tlog-cosignature; RFC
+-- Which checkpoints of a log are trusted, and when one replaces the last (C2SP tlog-checkpoint, tlog-cosignature; RFC
 -- 6962, section 2.1.2).
 use Rattle.std.specs.Prelude.{◌≡◌, ℕ, ◌≤◌, List, [], Contains, Option, Some, None}
 use Rattle.sha2.specs.Sha256.{sha256}
@@ -11,8 +11,8 @@ use Rattle.tl_checkpoint.specs.Cosignature.{IsCosignature}
 use Rattle.tl_client.specs.Trusted.{Trust, IsTrusted}
 use Rattle.tl_hash.specs.declared.head.Head.{Head}
 
--- whose checkpoints are trusted: the log's name and keys, so many of these witnesses, and one of them at this time, in
--- seconds since 1970, or later, if there is one
+-- which checkpoints are trusted: the log's name and keys, the witnesses and how many of them have to cosign, and the
+-- time, in seconds since 1970, from which on one of them has to, if there is one
 pub record Policy : Type 0 where
   pub origin : Bytes
   pub trust : Trust
@@ -22,7 +22,7 @@ abbrev pub policy_of : Bytes → List Key → List Key → ℕ → Option ℕ �
 policy_of origin keys witnesses need since =
     record { origin = origin; trust = record { keys = keys; witnesses = witnesses; need = need }; since = since }
 
--- the same, without witnesses
+-- the same policy without witnesses
 abbrev pub alone : Policy → Policy
 alone policy =
     record { origin = policy.origin; trust = record { keys = policy.trust.keys; witnesses = []; need = 0 }; since = None }
@@ -40,7 +40,7 @@ pub record IsCosignedSince (note : Bytes) (witnesses : List Key) (since : ℕ) :
   pub valid : IsCosignature text key line time
   pub late : since ≤ time
 
--- it is fresh, if that is asked for
+-- the note is fresh, if that is asked for
 abbrev pub IsFresh : Bytes → List Key → Option ℕ → Type 0
 IsFresh note witnesses None = Unit {0}
 IsFresh note witnesses (Some since) = IsCosignedSince note witnesses since
@@ -54,7 +54,8 @@ pub record IsNoteOf (policy : Policy) (note : Bytes) (head : Head) : Type 0 wher
   pub root : checkpoint.root ≡ head.root
   pub fresh : IsFresh note policy.trust.witnesses policy.since
 
--- what is known by the note that was trusted last: of none a log of no entries. What is kept was cosigned when it came
+-- what is known by the note that was trusted last, or without a note a log of no entries. A kept note was cosigned
+-- when it came
 abbrev pub IsKnown : Policy → Option Bytes → Head → Type 0
 IsKnown policy None head = head ≡ record { size = 0; root = sha256 [] }
 IsKnown policy (Some note) head = IsNoteOf (alone policy) note head
@@ -78,7 +79,7 @@ pub record Two : Type 0 where
   pub note : Bytes
   pub new : Head
 
--- they are what a state that may have this has, and what is trusted under the policy
+-- the two are what a state that may have this has, and what is trusted under the policy
 pub record AreTwo (may_have : Option Bytes → Type 0) (policy : Policy) (c : Two) : Type 0 where
   pub had : may_have c.last
   pub known : IsKnown policy c.last c.old

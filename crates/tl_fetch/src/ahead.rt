@@ -1,4 +1,4 @@
-//! Bundles and tiles that are asked for before their turn.
+//! Asks for bundles and tiles before their turn.
 
 ghost use Rattle.std.specs.Prelude.{◌≡◌, ◌<◌, ◌*◌, All, IfOk, OnOk};
 ghost use Rattle.tl_fetch.specs.Inner.Ahead.{IsOfLog};
@@ -8,7 +8,7 @@ use tl_client::Head;
 use tl_source::{AsksHost, HostClient, Requests, Window};
 use tl_tile::{FetchedTiles, Resource, Tile, bundle_width};
 
-// Whether a tile is among those that were kept.
+// Reports whether a tile is among the kept ones.
 fn is_kept<A: Allocator>(kept: &FetchedTiles<A>, tile: Tile) -> bool {
     kept.as_slice().iter().any(|one| one.0 == tile)
 }
@@ -41,15 +41,16 @@ fn push_bundle<S: AsksHost, A: Allocator>(
     Ok(())
 }
 
-// What is asked for next, and the first bundle after it.
+// What to ask for next, and the first bundle after it.
 #[derive(Drop)]
 struct Wanted {
     resources: Vec<Resource>,
     end: u64,
 }
 
-// The bundles of a log of this size from the one with this entry on, and the tiles of level 0 over them that aren't
-// known: as many as are asked for at once, or a tile more, and all of the log; none where one is asked for at once.
+// Returns the bundles of a log of this size, from the one with this entry on, and the tiles of level 0 over them that
+// aren't known. They are at most as many as requests are sent at once, or one tile more, and none if requests are
+// sent one by one.
 fn wanted_from<S: AsksHost, A: Allocator>(
     alloc: Global,
     source: &S,
@@ -76,7 +77,7 @@ fn wanted_from<S: AsksHost, A: Allocator>(
     Ok(Wanted { resources, end })
 }
 
-/// A source of a log, and what was got ahead of it.
+/// A source of a log, and what was got from it ahead.
 #[derive(Drop)]
 pub(crate) struct Ahead<'s, S: AsksHost> {
     source: &'s S,
@@ -86,7 +87,7 @@ pub(crate) struct Ahead<'s, S: AsksHost> {
 }
 
 impl<'s, S: AsksHost> Ahead<'s, S> {
-    /// Nothing is got yet.
+    /// Returns the source with nothing got ahead.
     pub(crate) fn new(alloc: Global, source: &'s S) -> Ahead<'s, S>
         ensures source { result.source.now ≡ source.now }
         ensures window { result.window ≡ source.now }
@@ -98,8 +99,8 @@ impl<'s, S: AsksHost> Ahead<'s, S> {
         }
     }
 
-    /// Gets the next bundles ahead, and the tiles over them, where the bundle with this entry was not asked for yet.
-    /// Where memory is refused, nothing more is got ahead.
+    /// Gets the next bundles and the tiles over them ahead, unless the bundle with this entry was already asked for.
+    /// If memory runs out, it gets nothing more ahead.
     pub(crate) fn reach<H: HostClient, A: Allocator>(
         &mut self,
         requests: &Requests<'_, H>,

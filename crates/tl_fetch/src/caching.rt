@@ -1,4 +1,4 @@
-//! Keeping tiles that passed their checks.
+//! Keeps tiles that passed their checks in a cache.
 
 use crate::observer::Observer;
 use std::alloc::{Allocator, Global};
@@ -7,7 +7,7 @@ use tl_client::Head;
 use tl_folder::TileCache;
 use tl_tile::FetchedTiles;
 
-/// A cache where tiles are kept that passed their checks, and who is told of them then.
+/// A cache that keeps tiles which passed their checks, and the observer that is notified next.
 #[derive(Drop)]
 pub(crate) struct Caching<'c, H: Files, O> {
     pub(crate) alloc: Global,

@@ -37,10 +37,10 @@ use tl_source::{
     NamesLack, Requests, Url,
 };
 
-// How many requests to a host are in flight at once, where that isn't told.
+// How many requests to a host are in flight at once if the options don't say.
 const AT_ONCE: u16 = 8;
 
-/// The source that the options name: what has a scheme is an address, and all else a folder.
+/// Returns the source that the options name: an address if the text has a scheme, else a folder.
 pub(crate) fn source_of<'s, H: Files + Net<Stream = TcpStream> + Clock>(
     rt: &'s H,
     alloc: Global,
@@ -62,7 +62,7 @@ pub(crate) fn source_of<'s, H: Files + Net<Stream = TcpStream> + Clock>(
     Ok(AnySource::Http(HttpSource::new(rt, alloc, url, limit)))
 }
 
-// The path of the file beside a state's that says how far all entries were printed.
+// Returns the path of the file beside a state's that says up to where all entries were printed.
 fn printed_path(alloc: Global, state: &str) -> Result<String, AllocError>
     ensures { IfOk result (λ path. string_bytes path ≡ state.now ++ codes ".printed") }
 {
@@ -71,7 +71,7 @@ fn printed_path(alloc: Global, state: &str) -> Result<String, AllocError>
     Ok(path)
 }
 
-// Fetches with this state, and with how far all entries were printed in a file beside its own.
+// Fetches all entries with this state, and with a file beside it that says up to where they were printed.
 fn fetch_beside<
     H: Files<File = File> + HostClient,
     S: ResourceSource + AsksHost,
@@ -202,7 +202,8 @@ fn fetch_with_state<
     )
 }
 
-// A fault, which names what the last call of the source lacked where that is why it came.
+// Returns a fault that names the resource which the last call of the source lacked, if that is the reason of this
+// one.
 fn name_lack(fault: FetchFault, lack: Option<Lack>) -> FetchFault
     ensures { IsToldAs fault result }
 {
@@ -214,7 +215,8 @@ fn name_lack(fault: FetchFault, lack: Option<Lack>) -> FetchFault
     }
 }
 
-/// How a run ended, whose fault names what the last call of the source lacked where that is why it came.
+/// Returns the outcome of a run, whose fault names the resource that the last call of the source lacked, if that is
+/// the reason.
 pub(crate) fn with_lack(
     outcome: Result<(), FetchFault>,
     lack: Option<Lack>,
@@ -264,7 +266,7 @@ fn fetch_through<
     fetch_with_state(rt, alloc, &source, policy, options, &mut caching, writer)
 }
 
-// Fetches from the source that is named.
+// Fetches from the source that the options name.
 fn fetch_as_asked<'s, H: Files<File = File> + HostClient, W: Write, E: Write>(
     rt: &'s H,
     alloc: Global,
@@ -296,7 +298,7 @@ fn fetch_as_asked<'s, H: Files<File = File> + HostClient, W: Write, E: Write>(
     with_lack(outcome, source.lack())
 }
 
-// The same, where the policy is the one that the options tell.
+// Fetches as `fetch_as_asked` does, under the policy that the options describe.
 fn fetch_as_told<'s, H: Files<File = File> + HostClient, W: Write, E: Write>(
     rt: &'s H,
     alloc: Global,
@@ -317,7 +319,7 @@ fn fetch_as_told<'s, H: Files<File = File> + HostClient, W: Write, E: Write>(
     }
 }
 
-// The same by the keys of a log, one or two.
+// Fetches by the keys of a log, one or two.
 fn fetch_by<'s, H: Files<File = File> + HostClient, W: Write, E: Write>(
     rt: &'s H,
     alloc: Global,
@@ -361,10 +363,10 @@ fn fetch_by<'s, H: Files<File = File> + HostClient, W: Write, E: Write>(
     fetch_as_told(rt, alloc, &policy, options, writer, errors, is_terminal)
 }
 
-/// `fetch`: reads the keys of the log, one or two, and of the witnesses (C2SP signed-note, "Verifier keys"), and
-/// fetches what is wanted from the folder or over HTTP as `fetch_under` does, of the log with the name of its keys, with
-/// as many requests in flight as the options tell. Where `errors` goes to a terminal, it is told how far the checks are.
-/// The clock is read once, if a cosignature has to be fresh.
+/// Runs the command `fetch`. It reads the verifier keys of the log, one or two, and of the witnesses (C2SP
+/// signed-note, "Verifier keys"), and fetches as `fetch_under` does, from a folder or over HTTP, from the log with
+/// the name of its keys. The options say how many requests are in flight at once. If `errors` is a terminal, it shows
+/// how far the checks are. The clock is read once, if a cosignature has to be fresh.
 pub fn run_fetch<
     's,
     H: Files<File = File>

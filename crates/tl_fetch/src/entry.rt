@@ -9,10 +9,10 @@ use std::alloc::Allocator;
 use tl_client::{ClientFault, Head, ResourceSource, read_entries};
 use tl_tile::FetchedTiles;
 
-/// The entry with this index, counted from 0, of a log of this size and root, checked against them (C2SP tlog-tiles,
-/// "Log Entries"; RFC 6962, section 2.1). `Range` comes where the log has no such entry or more than 2^62; the other
-/// faults are those of `tl_client::read_entries` for the bundle that has the entry. The observer is told of the tiles
-/// that it was checked with.
+/// Returns the entry with this index, counted from 0, of a log of this size and root, checked against them (C2SP
+/// tlog-tiles, "Log Entries"; RFC 6962, section 2.1). The observer gets the tiles that it was checked with. It fails
+/// with `Range` if the log has no such entry, or more than 2^62, and else with the faults of
+/// `tl_client::read_entries` for the bundle that has the entry.
 pub fn fetch_entry<S: ResourceSource, A: Allocator + Copy, O: Observer>(
     alloc: A,
     source: &S,

@@ -1,4 +1,4 @@
-//! Faults of the command `fetch`.
+//! Faults of the commands `fetch` and `feed`.
 
 ghost use Rattle.std.specs.Prelude.{◌≡◌, IfOk, Some, option_map, string_bytes};
 ghost use Rattle.tl_fetch.specs.FaultWords.{fetch_status, fetch_text, uncompared_words};
@@ -11,34 +11,34 @@ use tl_run::{RunFault, exit_of, fault_line};
 /// An address that the options name.
 #[derive(Clone, Copy, Debug, PartialEq, Eq)]
 pub enum Address {
-    /// The one that the log is read from.
+    /// The address that the log is read from.
     From,
-    /// The one of the witness at this place, counted from 0.
+    /// The address of the witness with this index, counted from 0.
     To(u64),
 }
 
-/// Why nothing, or not all, is fetched of a log that isn't trusted.
+/// Why nothing, or not everything, was fetched from a log that isn't trusted.
 #[derive(Clone, Copy, Debug, PartialEq, Eq)]
 pub enum FetchFault {
-    /// A fault as other commands have it, too.
+    /// A fault that other commands have, too.
     Run(RunFault),
-    /// This address is none over HTTP.
+    /// This address isn't one over HTTP.
     BadAddress(Address),
     /// The second key of the log has another name than the first, or is the same public key.
     OtherKey,
-    /// The text at this place, counted from 0, is the key of no witness.
+    /// The text with this index, counted from 0, is no witness's key.
     BadWitness(u64),
-    /// The witness at this place, counted from 0, has the public key of the log, or of a witness before it.
+    /// The witness's key with this index, counted from 0, is the public key of the log or of a key before it.
     SharedKey(u64),
-    /// The source has not got a resource, of which no more is known.
+    /// The source doesn't have a resource; no more is known.
     Unavailable,
     /// The checkpoint is signed, and names another log.
     OtherLog,
-    /// Only so many witnesses cosigned the checkpoint.
+    /// Only this many witnesses cosigned the checkpoint.
     TooFew(u64),
     /// None of the witnesses cosigned the checkpoint at this time, in seconds since 1970, or later.
     Stale(u64),
-    /// This tile is not the one that the root was made with.
+    /// This tile isn't the one that the root was made with.
     BadTile {
         /// Its level.
         level: u32,
@@ -47,24 +47,24 @@ pub enum FetchFault {
         /// How many hashes it has.
         width: u32,
     },
-    /// The bytes of the entry bundle with this index are none of its width.
+    /// The entry bundle with this index is malformed or of another width.
     BadBundle(u64),
-    /// The entry with this index is not the one that the root was made with.
+    /// The entry with this index isn't the one that the root was made with.
     BadEntry(u64),
     /// The checkpoint is smaller than the one that was trusted last.
     Older {
         /// Its number of entries.
         size: u64,
-        /// That of the one that was trusted last.
+        /// The number of entries of the checkpoint that was trusted last.
         of: u64,
-        /// Whether its tree was shown to be the beginning of the other's; else they weren't compared.
+        /// Whether its tree was shown to be the beginning of the other's. If not, the two weren't compared.
         compared: bool,
     },
-    /// The tree of neither the checkpoint nor the one that was trusted last begins with the other's.
+    /// Neither of two trees, the checkpoint's and that of the one trusted last, begins with the other.
     Forked,
 }
 
-// What is said behind an older checkpoint of whether it was compared.
+// Returns the words that say whether an older checkpoint was compared.
 fn words_of(compared: bool) -> &'static str
     ensures { result.now ≡ uncompared_words compared }
 {
@@ -138,8 +138,8 @@ impl<X: Drop> From<AllocFailed<X>> for FetchFault {
     }
 }
 
-/// The exit status of a fault: 4 if the log forked, 3 if a device failed, a source didn't answer or has an older
-/// checkpoint, or one that isn't fresh, else 1. It takes no memory.
+/// Returns the exit status of a fault: 4 if the log forked; 3 if a device failed, or a source didn't answer, or its
+/// checkpoint is older or not fresh; else 1. It allocates nothing.
 pub fn fetch_exit_of(fault: &FetchFault) -> u8
     ensures { result ≡ fetch_status fault.now }
 {
@@ -151,7 +151,8 @@ pub fn fetch_exit_of(fault: &FetchFault) -> u8
     }
 }
 
-/// The line of a fault on standard error, without its newline, if it has one. It fails for want of memory alone.
+/// Returns the line of a fault on standard error, without its newline, if it has one. It fails only if allocation
+/// fails.
 pub fn fetch_fault_line<A: Allocator>(
     alloc: A,
     fault: &FetchFault,

@@ -1,4 +1,4 @@
-//! Faults of checks, as those of the command.
+//! The faults of checks as faults of the command.
 
 ghost use Rattle.std.specs.Prelude.{◌≡◌};
 ghost use Rattle.tl_fetch.specs.Faults.{IsNoAccusation, after_client, after_head, after_unopened};
@@ -10,12 +10,12 @@ use tl_note::NoteFault;
 use tl_run::{Place, RunFault};
 use tl_tile::Resource;
 
-/// That what a source has for the checkpoint is none.
+/// The source's bytes for the checkpoint are no checkpoint.
 pub(crate) const BAD_CHECKPOINT: RunFault = RunFault::BadCheckpoint(Place::Source(
     Resource::Checkpoint,
 ));
 
-/// Why a check refused. That a growth is refused accuses nobody: evidence alone does.
+/// Returns the fault of the command for a check that failed. It never says that the log forked: only evidence does.
 pub(crate) fn client_refusal(fault: ClientFault) -> FetchFault
     ensures value { result ≡ after_client fault }
     ensures fair { IsNoAccusation result }
@@ -39,7 +39,7 @@ pub(crate) fn client_refusal(fault: ClientFault) -> FetchFault
     }
 }
 
-// Why a checkpoint doesn't open as a note.
+// Returns the fault of the command for a checkpoint that doesn't open as a note.
 fn unopened_refusal(fault: NoteFault) -> RunFault
     ensures { result ≡ after_unopened fault }
 {
@@ -49,7 +49,7 @@ fn unopened_refusal(fault: NoteFault) -> RunFault
     }
 }
 
-/// Why a checkpoint isn't trusted.
+/// Returns the fault of the command for a checkpoint that isn't trusted.
 pub(crate) fn head_refusal(fault: HeadFault) -> FetchFault
     ensures value { result ≡ after_head fault }
     ensures fair { IsNoAccusation result }

@@ -1,4 +1,4 @@
-//! Bringing a log's checkpoint before witnesses.
+//! Brings a log's checkpoint before witnesses.
 
 pub(crate) mod asking;
 pub(crate) mod command;

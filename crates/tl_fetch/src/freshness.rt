@@ -1,4 +1,4 @@
-//! Whether one of the witnesses cosigned a checkpoint lately enough.
+//! Checks that one of the witnesses cosigned a checkpoint lately enough.
 
 ghost use Rattle.std.specs.Prelude.{IfErr, IfOk, MatchBool, OnOk, map};
 ghost use Rattle.tl_checkpoint.specs.Cosignature.{ChecksCosignature};
@@ -16,7 +16,8 @@ use tl_checkpoint::check_cosignature;
 use tl_note::{NoteFault, SigView, Verifier, parse_note};
 use tl_run::RunFault;
 
-// The seconds since 1970 that the clock reads. If it can't be read, they are the most there are: nothing is fresh then.
+// Returns the seconds since 1970 that the clock reads. If it can't be read, it returns the most that there are, so
+// that nothing is fresh.
 fn seconds_now<H: Clock>(rt: &H) -> u64 {
     let Ok(now) = SystemTime::now(rt) else {
         return u64::MAX;
@@ -27,8 +28,8 @@ fn seconds_now<H: Clock>(rt: &H) -> u64 {
     }
 }
 
-/// The time at which or after which a cosignature is fresh: so many seconds before what the clock reads. Without
-/// seconds there is none, and the clock isn't read.
+/// Returns the time from which on a cosignature is fresh, this many seconds before what the clock reads. Without
+/// seconds it returns None and doesn't read the clock.
 pub(crate) fn since_of<H: Clock>(rt: &H, fresh: Option<u64>) -> Option<u64>
     ensures { IsSinceOf fresh result }
 {
@@ -38,7 +39,7 @@ pub(crate) fn since_of<H: Clock>(rt: &H, fresh: Option<u64>) -> Option<u64>
     Some(seconds_now(rt).saturating_sub(seconds))
 }
 
-// The time of the line, where it is a cosignature by the witness.
+// Returns the time of the line, if it is a cosignature by the witness.
 fn time_by(
     alloc: Global,
     text: &str,
@@ -50,7 +51,7 @@ fn time_by(
     check_cosignature(alloc, text, line, &**witness)
 }
 
-// Whether the line is a cosignature by the witness, of this time or later.
+// Reports whether the line is a cosignature by the witness of this time or later.
 fn is_late(
     alloc: Global,
     text: &str,
@@ -68,7 +69,7 @@ fn is_late(
     Ok(since <= time)
 }
 
-// Whether one of the lines is.
+// Reports whether one of the lines is a cosignature by the witness of this time or later.
 fn has_line(
     alloc: Global,
     text: &str,
@@ -89,7 +90,7 @@ fn has_line(
     has_line(alloc, text, rest, witness, since)
 }
 
-// Whether one of the lines is, by one of the witnesses.
+// Reports whether one of the lines is a cosignature by one of the witnesses of this time or later.
 fn has_witness(
     alloc: Global,
     text: &str,
@@ -110,8 +111,8 @@ fn has_witness(
     has_witness(alloc, text, lines, rest, since)
 }
 
-/// Checks that one of the witnesses cosigned the note lately enough (C2SP tlog-cosignature). If the policy asks for no
-/// time, the note isn't read.
+/// Checks that one of the witnesses cosigned the note lately enough (C2SP tlog-cosignature). If the policy asks for
+/// no time, it doesn't read the note.
 pub(crate) fn check_fresh(alloc: Global, policy: &Policy<'_>, note: &str) -> Result<(), FetchFault>
     ensures fresh { OnOk result
         (IsFresh note.now (map (λ w. key w) policy.now.witnesses.now) policy.now.since) }

@@ -1,4 +1,4 @@
-//! Whether the tree of one of two checkpoints begins with the other's, and evidence where it doesn't.
+//! Checks whether the tree of one of two checkpoints begins with the other's, and prints evidence if neither does.
 
 ghost use Rattle.std.specs.Prelude.{◌≡◌, ◌++◌, ◌↔◌, ◌<◌, ◌≤◌, ◌^◌, All, IfErr, IfOk, IsTrue, MatchOption, OnErr, OnOk, option_map, vec_items};
 ghost use Rattle.tl_hash.specs.Bytes.{IsHash};
@@ -26,7 +26,7 @@ use tl_run::{RunFault, print_text};
 use tl_store::tree_hash;
 use tl_tile::{FetchedTiles, TileHashReader};
 
-/// From what was trusted last to what is trusted now: two notes, and what they say.
+/// Two notes and what they say: the one that was trusted last, and the one that is trusted now.
 #[derive(Drop)]
 pub(crate) struct Update<'l, 'n> {
     pub(crate) last: Option<&'l str>,
@@ -35,14 +35,15 @@ pub(crate) struct Update<'l, 'n> {
     pub(crate) new: &'n Head,
 }
 
-/// Whether two heads are the same.
+/// Reports whether two heads are the same.
 pub(crate) fn is_same(one: &Head, other: &Head) -> bool
     ensures { IsTrue result ↔ (one.now ≡ other.now) }
 {
     one.size == other.size && one.root == other.root
 }
 
-// Checks that a log goes on from what was known, by a consistency proof that is accepted, and tells of its tiles.
+// Checks that a log goes on from what was known, by a consistency proof that is accepted. The observer gets its
+// tiles.
 fn check_grown<S: ResourceSource, O: Observer>(
     alloc: Global,
     source: &S,
@@ -62,7 +63,7 @@ fn check_grown<S: ResourceSource, O: Observer>(
     Ok(())
 }
 
-// A consistency proof that is accepted, from the root that a tree has at a smaller size.
+// Returns a consistency proof that is accepted, from the root that a tree has at a smaller size.
 fn proof_from<S: ResourceSource>(
     alloc: Global,
     source: &S,
@@ -111,7 +112,8 @@ fn has_text(proof: &ConsistencyProof<Global>)
     are_hashes(proof.proof.as_slice());
 }
 
-// The text of a consistency proof from another root than the smaller tree has, or none where that is its root.
+// Returns the text of a consistency proof to the larger tree from its own root at the smaller size, or None if that
+// is the smaller tree's root.
 fn text_apart<S: ResourceSource>(
     alloc: Global,
     source: &S,
@@ -134,14 +136,14 @@ fn text_apart<S: ResourceSource>(
     Ok(Some(text))
 }
 
-// Whether a growth is refused since the log forked.
+// Reports whether a growth was refused because the log forked.
 fn is_fork(fault: &ClientFault) -> bool
     ensures { IsTrue result ↔ (fault.now ≡ client.Forked) }
 {
     matches!(fault, ClientFault::Forked)
 }
 
-// What shows beside two notes that the smaller tree doesn't begin the larger one; none where it does.
+// Returns what shows, beside two notes, that the smaller tree doesn't begin the larger one, or None if it does.
 fn difference<S: ResourceSource, O: Observer>(
     alloc: Global,
     source: &S,
@@ -201,8 +203,8 @@ fn print_evidence<W: Write>(
     }
 }
 
-// Prints that the log forked, and tells it. Without a note that was trusted last it is a checkpoint of no entries with
-// another root than that of none, and nobody is accused.
+// Prints evidence that the log forked, and returns that fault. Without a note that was trusted last, the new
+// checkpoint has no entries and another root than a log of none; then nobody is accused.
 fn accuse<W: Write>(step: &Update<'_, '_>, shown: &[u8], writer: &mut Counted<W>) -> FetchFault
     requires { Disagree (bare step.now.old.now) (bare step.now.new.now) shown.now }
     ensures { Accuses (two_of (option_map (λ s. s.now) step.now.last)
@@ -218,7 +220,7 @@ fn accuse<W: Write>(step: &Update<'_, '_>, shown: &[u8], writer: &mut Counted<W>
     }
 }
 
-// That a checkpoint is older than the one that was trusted last, and whether the two were compared.
+// Returns the fault of a checkpoint that is older than the one trusted last, with whether the two were compared.
 fn older(step: &Update<'_, '_>, compared: bool) -> FetchFault
     ensures { result ≡ FetchFault.Older step.now.new.now.size step.now.old.now.size compared }
 {
@@ -229,7 +231,7 @@ fn older(step: &Update<'_, '_>, compared: bool) -> FetchFault
     }
 }
 
-// Why a checkpoint that is smaller than the one that was trusted last isn't taken: it is older, or the log forked.
+// Returns why a checkpoint smaller than the one trusted last isn't accepted: it is older, or the log forked.
 fn judge_older<S: ResourceSource, O: Observer, W: Write>(
     alloc: Global,
     source: &S,
@@ -249,8 +251,8 @@ fn judge_older<S: ResourceSource, O: Observer, W: Write>(
     }
 }
 
-/// Checks that the log goes on from what was known. Evidence is printed if it forked. If the new checkpoint is smaller and
-/// doesn't show that, it is `Older`.
+/// Checks that the log goes on from what was known. If the log forked, it prints evidence. If the new checkpoint is
+/// smaller and no fork is shown, it fails with `Older`.
 pub(crate) fn judge<S: ResourceSource, O: Observer, W: Write>(
     alloc: Global,
     source: &S,

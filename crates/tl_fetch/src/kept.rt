@@ -1,4 +1,4 @@
-//! Bundles one after the other, with tiles that are read once.
+//! Reads one bundle after the other, and each tile over them once.
 
 ghost use Rattle.std.specs.Prelude.{IfErr, IfOk, OnOk, map, vec_items};
 ghost use Rattle.sha2.specs.Sha256.{sha256};
@@ -12,8 +12,8 @@ use std::alloc::Allocator;
 use tl_client::{ClientFault, Head, ResourceSource, read_entries_after};
 use tl_tile::FetchedTiles;
 
-/// The checked entries of a bundle, as `tl_client::read_entries_after` gives them: tiles that were kept are neither
-/// asked for nor hashed again, and those of this bundle are kept then.
+/// Returns the checked entries of a bundle, as `tl_client::read_entries_after` does. Tiles that were kept are neither
+/// asked for nor hashed again. Afterwards the tiles over this bundle are kept.
 pub(crate) fn read_bundle<S: ResourceSource, A: Allocator + Copy>(
     alloc: A,
     source: &S,

@@ -1,4 +1,4 @@
-//! Printing entries, a bundle at a time.
+//! Prints entries, a bundle at a time.
 
 ghost use Rattle.std.specs.Prelude.{◌≡◌, ℕ, ◌<◌, ◌≤◌, ◌++◌, ◌/◌, IfErr, IfOk, OnErr, OnOk, map, vec_items};
 ghost use Rattle.sha2.specs.Sha256.{sha256};
@@ -22,14 +22,14 @@ use tl_run::{RunFault, print_text};
 use tl_source::{AsksHost, HostClient, Requests};
 use tl_tile::FetchedTiles;
 
-// Whether an entry is told after its length: its end isn't seen else.
+// Reports whether an entry is printed after its length, since its end wouldn't show otherwise.
 fn needs_length(entry: &[u8]) -> bool
     ensures { result ≡ needs_length entry.now }
 {
     entry.starts_with(b"\\") || entry.contains(&b'\n')
 }
 
-// Appends the line of an entry's length, where the entry needs it.
+// Appends the line of an entry's length, if the entry needs it.
 fn push_length<A: Allocator>(out: &mut Vec<u8, A>, entry: &[u8]) -> Result<(), AllocError>
     ensures { OnOk result (out.new.items ≡ out.old.items ++ length_line entry.now) }
 {
@@ -66,8 +66,8 @@ fn push_lines<A: Allocator, B: Allocator>(
     Ok(())
 }
 
-// The entries from this index on to the end of its bundle, as they are listed, and the index after them. Of the tiles
-// that were kept those stay that lie over it.
+// Returns the entries from this index to the end of its bundle, as they are listed, and the index after them. Of the
+// kept tiles only those over this bundle stay.
 fn lines_from<S: ResourceSource, A: Allocator + Copy, O: Observer>(
     alloc: A,
     source: &S,
@@ -99,7 +99,7 @@ fn lines_from<S: ResourceSource, A: Allocator + Copy, O: Observer>(
     Ok((text, next))
 }
 
-// Prints the entries from this index on to the end of its bundle, and gives the index after them.
+// Prints the entries from this index to the end of its bundle, and returns the index after them.
 fn print_bundle<S: ResourceSource, A: Allocator + Copy, O: Observer, W: Write>(
     alloc: A,
     source: &S,
@@ -126,10 +126,11 @@ fn print_bundle<S: ResourceSource, A: Allocator + Copy, O: Observer, W: Write>(
     Ok(next)
 }
 
-/// Prints the entries from this index on, counted from 0, up to the end of a log of this size and root, a line each;
-/// one with a newline, or a backslash in front, after a line with a backslash and its length. Each is checked as by
-/// `fetch_entry`, and nothing is printed of a bundle that doesn't pass. A tile is asked for once, and hashed once; by
-/// `requests` a host is asked ahead. `BadIndex`: the index is above the size, or the log has more than 2^62 entries.
+/// Prints the entries from this index, counted from 0, to the end of a log of this size and root, a line each. An
+/// entry that has a newline or begins with a backslash follows a line with a backslash and its length. Each is
+/// checked as by `fetch_entry`; nothing is printed of a bundle that fails. A tile is asked for and hashed once; a
+/// host is asked ahead, by `requests`. It fails with `BadIndex` if the index is above the size or the log exceeds
+/// 2^62 entries.
 pub fn print_entries<
     S: ResourceSource + AsksHost,
     H: HostClient,

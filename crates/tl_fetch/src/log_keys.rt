@@ -1,4 +1,4 @@
-//! The keys of the log that the options name.
+//! The log's keys that the options name.
 
 ghost use Rattle.std.specs.Prelude.{◌≡◌, ◌∷◌, [], IfErr, IfOk, MatchBool, Some, string_bytes};
 ghost use Rattle.tl_fetch.specs.Command.{HaveLogKeys, IsKeyFault, log_texts};
@@ -17,13 +17,13 @@ use tl_run::RunFault;
 /// The keys of a log, one or two.
 #[derive(Drop)]
 pub(crate) struct LogKeys {
-    /// The one that it is named by.
+    /// The key that names the log.
     pub(crate) key: NoteVerifier<Global>,
-    /// The other one, where it has two.
+    /// The other key, if the log has two.
     pub(crate) other: Option<NoteVerifier<Global>>,
 }
 
-// The key of the log that the first text is of.
+// Returns the log's key whose text comes first.
 #[tactic(auto, using(crate::proofs::LogKeyLemmas::no_first))]
 fn first_key(alloc: Global, options: &FetchOptions) -> Result<NoteVerifier<Global>, FetchFault>
     ensures read { IfOk result (λ k. IsVerifierText note_kind (string_bytes options.now.key) k) }
@@ -35,7 +35,7 @@ fn first_key(alloc: Global, options: &FetchOptions) -> Result<NoteVerifier<Globa
     }
 }
 
-// Whether a key has the name of another and a public key of its own.
+// Reports whether a key has the name of another and a public key of its own.
 fn is_another(key: &NoteVerifier<Global>, other: &NoteVerifier<Global>) -> bool
     ensures { MatchBool result (AreTwo key.now other.now) (AreNotTwo key.now other.now) }
 {
@@ -45,7 +45,7 @@ fn is_another(key: &NoteVerifier<Global>, other: &NoteVerifier<Global>) -> bool
     !is_same(other.public_key(), key.public_key())
 }
 
-// The key of the log that the second text is of, another one than the first.
+// Returns the log's key whose text comes second, which must be another one than the first.
 #[tactic(auto, using(crate::proofs::LogKeyLemmas::no_second, crate::proofs::LogKeyLemmas::no_other, crate::proofs::LogKeyLemmas::two_told))]
 fn second_key(
     alloc: Global,
@@ -68,8 +68,8 @@ fn second_key(
     Ok(other)
 }
 
-/// The keys of the log that the options tell (C2SP signed-note, "Verifier keys"), where each of its witnesses has a
-/// public key of its own. The log's texts are looked at first.
+/// Returns the log's keys that the options name (C2SP signed-note, "Verifier keys"), if each of its witnesses has a
+/// public key of its own. It reads the log's texts first.
 pub(crate) fn log_keys(alloc: Global, options: &FetchOptions) -> Result<LogKeys, FetchFault>
     ensures told { IfOk result
         (λ keys. AreTold options.now keys.key.name (keys_of keys.key keys.other)) }

@@ -1,16 +1,16 @@
-//! Who is told of what passed its checks.
+//! Observers of what passed its checks.
 
 use std::alloc::Allocator;
 use tl_client::Head;
 use tl_tile::FetchedTiles;
 
-/// Who is told of what passed its checks: of tiles, and of the entries that were checked by them.
+/// An observer of tiles that passed their checks, and of the entries that were checked by them.
 pub trait Observer {
     ghost use Rattle.sha2.specs.Sha256.{sha256};
     ghost use Rattle.tl_tile.specs.Verified.{AreVerified};
 
-    /// These tiles passed all checks against a size and a root, and so did the entries before `next` that were asked
-    /// for. It was told of the first `known` tiles before.
+    /// Is called once these tiles passed all checks against a size and a root, and so did the entries asked for
+    /// before the index `next`. An earlier call had the first `known` tiles.
     fn checked<A: Allocator>(
         &mut self,
         head: &Head,
@@ -20,12 +20,12 @@ pub trait Observer {
     )
         requires { AreVerified sha256 head.now.size head.now.root tiles.now };
 
-    /// These tiles passed all checks against a size and a root; nothing is said of entries.
+    /// Is called once these tiles passed all checks against a size and a root, and no entry was checked.
     fn passed<A: Allocator>(&mut self, head: &Head, tiles: &FetchedTiles<A>)
         requires { AreVerified sha256 head.now.size head.now.root tiles.now };
 }
 
-/// Nobody is told.
+/// An observer that does nothing.
 #[derive(Clone, Copy)]
 pub(crate) struct Nobody;
 

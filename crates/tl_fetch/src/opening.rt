@@ -1,4 +1,4 @@
-//! The checkpoints that are trusted: the one of the state, and the one that a source has.
+//! Opens the checkpoints that are trusted: the state's, and the source's.
 
 ghost use Rattle.std.specs.Prelude.{◌≡◌, IfErr, IfOk, map, option_map, string_bytes};
 ghost use Rattle.tl_tile.specs.declared.resource.Resource.TheVariants.{Checkpoint};
@@ -19,7 +19,7 @@ use tl_hash::{Sha256Tree, empty_hash};
 use tl_run::{Place, RunFault};
 use tl_tile::{Resource, SourceFault};
 
-// The text that a source has for the checkpoint. Bytes that are no text are `BadCheckpoint`.
+// Returns the text that a source has for the checkpoint. It fails with `BadCheckpoint` if the bytes are no text.
 fn read_note<S: ResourceSource>(alloc: Global, source: &S) -> Result<String, FetchFault>
     ensures text { IfOk result
         (λ note. S.may_answer source.now Checkpoint (string_bytes note)) }
@@ -38,10 +38,10 @@ fn read_note<S: ResourceSource>(alloc: Global, source: &S) -> Result<String, Fet
     }
 }
 
-/// The size and the root of a log by a note that is trusted: it opens under the log's keys, its text is a checkpoint
-/// (C2SP tlog-checkpoint) that enough of the witnesses cosigned (C2SP tlog-cosignature), it names the log, and one of
-/// the witnesses cosigned it lately enough, if the policy asks for that. `OtherLog`: it names another. `Stale`: each
-/// cosignature by one of the witnesses is of an earlier time.
+/// Returns the size and the root of a log by a trusted note: it opens under the log's keys, its text is a checkpoint
+/// (C2SP tlog-checkpoint) that enough of the witnesses cosigned (C2SP tlog-cosignature) and that names the log, and
+/// one of the witnesses cosigned it lately enough, if the policy asks for that. It fails with `OtherLog` if the
+/// checkpoint names another log, and with `Stale` if each cosignature by a witness is of an earlier time.
 pub fn open_trusted(alloc: Global, policy: &Policy<'_>, note: &str) -> Result<Head, FetchFault>
     ensures trusted { IfOk result
         (λ head. IsNoteOf (policy_of policy.now.origin.now (map (λ v. key v) policy.now.log.now)
@@ -69,7 +69,7 @@ pub fn open_trusted(alloc: Global, policy: &Policy<'_>, note: &str) -> Result<He
     })
 }
 
-// What is told where a state's note gives no size and root.
+// Returns the fault of the command if the note of a state gives no size and root.
 fn state_refusal(fault: FetchFault) -> FetchFault
     ensures value { result ≡ after_state fault }
     ensures fair { IsNoAccusation result }
@@ -80,8 +80,8 @@ fn state_refusal(fault: FetchFault) -> FetchFault
     }
 }
 
-/// The size and the root that are known by the note that was trusted last: of none those of a log of no entries. A note
-/// that isn't of the log is `BadCheckpoint` over the state.
+/// Returns the size and the root by the note that was trusted last, or without a note those of a log of no entries.
+/// It fails with `BadCheckpoint` of the state if the note isn't the log's.
 pub fn trusted_head(
     alloc: Global,
     policy: &Policy<'_>,
@@ -121,7 +121,7 @@ pub(crate) struct Trusted<N> {
     pub(crate) head: Head,
 }
 
-/// What a state has, and what is known by it.
+/// Returns the state's note, and what is known by it.
 pub(crate) fn trusted_last<K: TrustStore>(
     alloc: Global,
     policy: &Policy<'_>,
@@ -146,7 +146,7 @@ pub(crate) fn trusted_last<K: TrustStore>(
     }
 }
 
-// What a source has for the checkpoint, where it is trusted.
+// Returns the source's checkpoint, if it is trusted.
 fn trusted_now<S: ResourceSource>(
     alloc: Global,
     source: &S,
@@ -172,7 +172,7 @@ fn trusted_now<S: ResourceSource>(
     }
 }
 
-/// What a state has, and what a source has for the checkpoint, where both are trusted.
+/// Returns the state's note and the source's checkpoint, if both are trusted.
 pub(crate) fn trusted_two<S: ResourceSource, K: TrustStore>(
     alloc: Global,
     source: &S,

@@ -1,4 +1,4 @@
-//! Printing a head, an entry and an inclusion proof.
+//! Prints a head, an entry and an inclusion proof.
 
 ghost use Rattle.std.specs.Prelude.{◌≡◌, ◌⊎◌, IfErr, IfOk, OnErr, OnOk, string_bytes};
 ghost use Rattle.sha2.specs.Sha256.{sha256};
@@ -22,7 +22,7 @@ use tl_hash::{Sha256Tree, leaf_hash};
 use tl_run::{RunFault, print_text};
 use tl_text::push_line;
 
-// The lines of a log's name, its size and its root.
+// Returns the lines of a log's name, its size and its root.
 fn head_lines<A: Allocator + Copy>(
     alloc: A,
     origin: &str,
@@ -57,8 +57,8 @@ pub fn print_head<A: Allocator + Copy, W: Write>(
     Ok(())
 }
 
-/// Prints the entry with this index and a newline, as `fetch_entry` has it. Nothing is printed of an entry that doesn't
-/// pass its check.
+/// Prints the entry with this index and a newline. It checks the entry as `fetch_entry` does, and prints nothing of
+/// an entry that fails.
 pub fn print_entry<S: ResourceSource, A: Allocator + Copy, O: Observer, W: Write>(
     alloc: A,
     source: &S,
@@ -83,7 +83,8 @@ pub fn print_entry<S: ResourceSource, A: Allocator + Copy, O: Observer, W: Write
     Ok(())
 }
 
-/// Prints the bytes of the entry with this index, counted from 0, and nothing else. It is checked as by `fetch_entry`.
+/// Prints the bytes of the entry with this index, counted from 0, and nothing else. It checks the entry as
+/// `fetch_entry` does.
 pub fn print_raw<S: ResourceSource, A: Allocator + Copy, O: Observer, W: Write>(
     alloc: A,
     source: &S,
@@ -107,7 +108,7 @@ pub fn print_raw<S: ResourceSource, A: Allocator + Copy, O: Observer, W: Write>(
     Ok(())
 }
 
-// An accepted inclusion proof of this entry, with what it is about.
+// Returns an accepted inclusion proof of this entry, with what it is about.
 fn proof_of<S: ResourceSource, A: Allocator + Copy>(
     alloc: A,
     source: &S,
@@ -133,7 +134,7 @@ fn proof_of<S: ResourceSource, A: Allocator + Copy>(
     }
 }
 
-// The text of an inclusion proof of the entry with this index, which is checked.
+// Returns the text of an inclusion proof of the entry with this index, which is checked.
 fn proof_text<S: ResourceSource, A: Allocator + Copy, O: Observer>(
     alloc: A,
     source: &S,
@@ -154,8 +155,8 @@ fn proof_text<S: ResourceSource, A: Allocator + Copy, O: Observer>(
     Ok(text)
 }
 
-/// Prints the text of an inclusion proof of the entry with this index (RFC 6962, section 2.1.1), as the command
-/// `inclusion` does. The entry is checked as by `fetch_entry`, and the proof is accepted.
+/// Prints the text of an accepted inclusion proof of the entry with this index (RFC 6962, section 2.1.1), as the
+/// command `inclusion` does. It checks the entry as `fetch_entry` does.
 pub fn print_proof<S: ResourceSource, A: Allocator + Copy, O: Observer, W: Write>(
     alloc: A,
     source: &S,

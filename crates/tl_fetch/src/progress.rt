@@ -1,4 +1,4 @@
-//! Telling a terminal how far the checks are.
+//! Shows on a terminal how far the checks are.
 
 use crate::observer::Observer;
 use std::alloc::{Allocator, Global};
@@ -8,7 +8,7 @@ use tl_device::Counted;
 use tl_run::{RunFault, print_text};
 use tl_tile::FetchedTiles;
 
-/// Standard error, which is told how far the checks are where it is a terminal.
+/// Standard error, which shows how far the checks are if it is a terminal.
 #[derive(Drop)]
 pub(crate) struct Progress<'e, E> {
     alloc: Global,
@@ -18,7 +18,7 @@ pub(crate) struct Progress<'e, E> {
 }
 
 impl<'e, E: Write> Progress<'e, E> {
-    /// Of no tile yet.
+    /// Returns the progress before any tile.
     pub(crate) fn new(
         alloc: Global,
         errors: &'e mut Counted<E>,
@@ -32,7 +32,7 @@ impl<'e, E: Write> Progress<'e, E> {
         }
     }
 
-    // Tells how far the checks are, on one line that is written anew.
+    // Prints how far the checks are, on one line that is overwritten each time.
     fn tell(&mut self, head: &Head, next: u64) -> Result<(), RunFault> {
         if !self.is_terminal {
             return Ok(());
@@ -58,6 +58,6 @@ impl<E: Write> Observer for Progress<'_, E> {
         let _ = self.tell(head, next);
     }
 
-    // The line tells of entries alone.
+    // Does nothing: the line only shows entries.
     fn passed<A: Allocator>(&mut self, _head: &Head, _tiles: &FetchedTiles<A>) {}
 }

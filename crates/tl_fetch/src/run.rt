@@ -1,4 +1,4 @@
-//! Fetching from any source, whoever keeps the state.
+//! Fetches from any source, with any store for the state.
 
 ghost use Rattle.std.specs.Prelude.{◌≡◌, ◌≢◌, ◌⊎◌, ℕ, IfErr, OnErr, OnOk, map, option_map, string_bytes};
 ghost use Rattle.tl_device.specs.Device.{IsUnwritten, passage};
@@ -24,14 +24,14 @@ use tl_client::{Head, ResourceSource};
 use tl_device::Counted;
 use tl_source::{AsksHost, HostClient, Requests};
 
-// What is wanted of a log of which so many entries were known.
+// What is asked for of a log of which this many entries were known.
 #[derive(Clone, Copy)]
 struct Task {
     wanted: FetchRequest,
     known: u64,
 }
 
-// Prints what is asked of the log of a policy.
+// Prints what is asked for of the log of a policy.
 fn print_asked<S: ResourceSource + AsksHost, H: HostClient, O: Observer, W: Write>(
     alloc: Global,
     source: &S,
@@ -61,7 +61,7 @@ fn print_asked<S: ResourceSource + AsksHost, H: HostClient, O: Observer, W: Writ
     }
 }
 
-// Keeps the new note and prints what is wanted, but not all entries.
+// Keeps the new note, and then prints what is asked for, which isn't all entries.
 fn keep_and_print<
     S: ResourceSource + AsksHost,
     H: HostClient,
@@ -107,8 +107,8 @@ fn keep_and_print<
     )
 }
 
-// Prints all entries from this one on, and then keeps the new note, first as the one that is trusted, and then as that
-// of what was printed: the entries of a run that fails come again.
+// Prints all entries from this index on, and then keeps the new note, first as the trusted one and then as that of
+// what was printed. So the entries of a run that fails are printed again.
 fn print_and_keep<
     S: ResourceSource + AsksHost,
     H: HostClient,
@@ -158,7 +158,8 @@ fn print_and_keep<
     printed.keep(policy, since.last, note)
 }
 
-// From which entry on all are printed: behind those of the log up to which they were, or else those that were known.
+// Returns the index from which on all entries are printed: behind those that were printed, or else behind those that
+// were known.
 fn first_of(mark: &Trusted<Option<String>>, known: &Head) -> u64
     ensures { result ≡ first_wanted (option_map string_bytes mark.now.note) mark.now.head known.now }
 {
@@ -168,7 +169,8 @@ fn first_of(mark: &Trusted<Option<String>>, known: &Head) -> u64
     }
 }
 
-// Checks that the log goes on from where all entries were printed, which may be what was known, from which it does.
+// Checks that the log goes on from where all entries were printed. That may be what was known, from which it does go
+// on.
 fn judge_marked<S: ResourceSource, O: Observer, W: Write>(
     alloc: Global,
     source: &S,
@@ -257,8 +259,8 @@ fn fetch_all<
     }
 }
 
-// Prints what is wanted of a log that goes on from what was known, and keeps the new note. How far all entries were
-// printed only changes where they are.
+// Prints what is asked for of a log that goes on from what was known, and keeps the new note. Only a request for all
+// entries changes the note of what was printed.
 fn fetch_grown<
     S: ResourceSource + AsksHost,
     H: HostClient,
@@ -314,11 +316,11 @@ fn fetch_grown<
     }
 }
 
-/// Fetches what is wanted of the log of this policy. The source's checkpoint has to be trusted (`open_trusted`), and
-/// to go on from the state's by a consistency proof that is accepted (`tl_client::prove_growth`). It is kept then, and
-/// what is wanted is printed. All entries come from where `printed` has it that they were printed, from which the log
-/// has to go on as well, or else from the state's; both notes are kept after them. If the log forked, evidence is
-/// printed: the note that was trusted, the new one, and what shows it.
+/// Fetches from the log of this policy. The source's checkpoint has to be trusted (`open_trusted`), and to extend the
+/// state's by an accepted consistency proof (`tl_client::prove_growth`). It is kept, and what is asked for is
+/// printed. All entries start behind those that `printed` has as printed, whose checkpoint the log has to extend as
+/// well, or else behind the state's; both notes are kept after them. If the log forked, it prints evidence: the
+/// trusted note, the new one, and what shows the fork.
 pub fn fetch_under<
     S: ResourceSource + AsksHost,
     H: HostClient,

@@ -1,10 +1,10 @@
-//! Who keeps the checkpoint that was trusted last.
+//! Stores of the checkpoint that was trusted last.
 
 use crate::fault::FetchFault;
 use crate::policy::Policy;
 use std::alloc::Global;
 
-/// Who keeps the signed checkpoint of a log that was trusted last.
+/// A store of the signed checkpoint of a log that was trusted last.
 pub trait TrustStore {
     ghost use Rattle.std.specs.Prelude.{IfErr, IfOk, OnOk, Option, map, option_map, string_bytes};
     ghost use Rattle.tl_hash.specs.Bytes.{Bytes};
@@ -12,23 +12,23 @@ pub trait TrustStore {
     ghost use Rattle.tl_fetch.specs.declared.fault.FetchFault.{FetchFault};
     ghost use Rattle.tl_fetch.specs.Trusting.{IsNext, policy_of};
 
-    /// Which note it may have; none before the first one.
+    /// Which note the store may have; None before the first one.
     ghost may_have: { Self → Option Bytes → Type 0 };
 
-    /// Whether a note is the one that was kept last, as far as it shows what it keeps.
+    /// Whether a note is the one that was kept last, as far as the store shows what it keeps.
     ghost has_kept: { Self → Bytes → Type 0 };
 
-    /// For which faults it may fail.
+    /// The faults with which the store may fail.
     ghost may_fail: { Self → FetchFault → Type 0 };
 
-    /// The note that was kept last.
+    /// Returns the note that was kept last.
     fn last(&self, alloc: Global) -> Result<Option<String>, FetchFault>
         ensures had { IfOk result (λ note. may_have self.now (option_map string_bytes note)) }
         ensures refused { IfErr result (may_fail self.now) }
         ensures fair { IfErr result IsNoAccusation };
 
-    /// Keeps a note in place of the last one. It is only ever asked to where that note is trusted, and its log begins
-    /// with the one that is known by the last note, by a consistency proof that was accepted.
+    /// Keeps a note in place of the last one. It is only called for a trusted note whose log extends the one known by
+    /// the last note, by an accepted consistency proof.
     fn keep(
         &mut self,
         policy: &Policy<'_>,
@@ -43,7 +43,7 @@ pub trait TrustStore {
         ensures fair { IfErr result IsNoAccusation };
 }
 
-/// No state: nothing was known before, and nothing is kept.
+/// An empty state: nothing was known before, and nothing is kept.
 #[derive(Clone, Copy, Debug, PartialEq, Eq)]
 pub struct NoState;
 

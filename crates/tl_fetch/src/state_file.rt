@@ -15,7 +15,7 @@ use tl_run::{Place, RunFault};
 // The most bytes of a note.
 const MOST: u64 = 65_536;
 
-/// Why the file of a state was not opened, read or replaced.
+/// Returns the fault of the command if the file of a state can't be opened, read or replaced.
 pub(crate) fn file_refusal(fault: DeviceFault) -> FetchFault
     ensures refused { IsStateFault result }
     ensures fair { IsNoAccusation result }
@@ -23,7 +23,7 @@ pub(crate) fn file_refusal(fault: DeviceFault) -> FetchFault
     FetchFault::Run(RunFault::of_device(Place::State, fault))
 }
 
-/// A state in a file, which has the note.
+/// A state whose file has the note.
 #[derive(Drop)]
 pub struct FileState<'s, H: Files>(pub AtomicFile<'s, H>);
 

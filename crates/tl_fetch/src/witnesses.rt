@@ -1,4 +1,4 @@
-//! The keys of the witnesses that the options name.
+//! The witnesses' keys that the options name.
 
 ghost use Rattle.std.specs.Prelude.{◌≡◌, ◌<◌, ◌↔◌, List, Contains, IfErr, IfOk, IsTrue, MatchBool, MatchOption, OnOk, length, string_bytes, vec_items};
 ghost use Rattle.tl_fetch.specs.Command.{HaveLogKeys, HaveOwnKeys, IsKeyFault, log_texts, public_keys, witness_text, witness_texts};
@@ -12,7 +12,7 @@ use crate::options::FetchOptions;
 use std::alloc::{AllocError, Global};
 use tl_key::{Cosignature, CosignerVerifier, KeyFault, KeyKind, VerifierKey, read_verifier_key};
 
-/// The verifier's key of this type that a text is of, if it is of one.
+/// Returns the verifier key of this type whose text this is, or None if it is no such text.
 pub(crate) fn read_text<K: KeyKind>(
     alloc: Global,
     text: &str,
@@ -28,7 +28,7 @@ pub(crate) fn read_text<K: KeyKind>(
     }
 }
 
-/// The verifier's key of the witness at this place.
+/// Returns the witness's verifier key whose text has this index.
 pub(crate) fn witness_key(
     alloc: Global,
     options: &FetchOptions,
@@ -45,14 +45,14 @@ pub(crate) fn witness_key(
     }
 }
 
-/// Whether two public keys are one.
+/// Reports whether two public keys are the same.
 pub(crate) fn is_same(one: &[u8; 32], other: &[u8; 32]) -> bool
     ensures { IsTrue result ↔ (one.now ≡ other.now) }
 {
     one == other
 }
 
-// Whether a public key is one of these.
+// Reports whether a public key is one of these.
 fn is_among(known: &[[u8; 32]], key: &[u8; 32]) -> bool
     ensures { MatchBool result (Contains known.now key.now) (¬ (Contains known.now key.now)) }
 {
@@ -64,8 +64,9 @@ fn is_among(known: &[[u8; 32]], key: &[u8; 32]) -> bool
     false
 }
 
-/// Checks that each key of a witness is a public key of its own, so that nobody counts twice under two names, and none of
-/// those of the log counts for a witness. `SharedKey` has the place of the first that isn't; `BadWitness` of the first text that is of no key.
+/// Checks that each witness's key has a public key of its own, so that nobody counts twice under two names, and that
+/// none of the log's keys counts for a witness. It fails with `SharedKey` of the first key that doesn't, and with
+/// `BadWitness` of the first text that is no key's.
 pub(crate) fn check_keys(
     alloc: Global,
     options: &FetchOptions,

@@ -14,7 +14,7 @@ fn put_two(out: &mut String, first: &[u8], second: &[u8]) -> Told {
     put_hex(out, second)
 }
 
-/// What an audit shows, with two colliding texts in the order of their bytes.
+/// Writes what an audit shows, with two colliding texts in the order of their bytes.
 impl Shown for Verdict<Global> {
     fn show(&self, out: &mut String) -> Told {
         match self {
@@ -31,7 +31,7 @@ impl Shown for Verdict<Global> {
     }
 }
 
-// The link of a line: a size, a root and a proof.
+// Returns the link of a line: a size, a root and a proof.
 fn link_of(alloc: Global, line: &str) -> Result<Link<Global>, AllocError> {
     let mut words = Words { left: line };
     let size = words.number();
@@ -40,7 +40,7 @@ fn link_of(alloc: Global, line: &str) -> Result<Link<Global>, AllocError> {
     Ok(Link { size, root, proof })
 }
 
-// The links that a text gives, one a line.
+// Returns the links of a text, one a line.
 fn links_of(alloc: Global, text: &str) -> Result<Vec<Link<Global>>, AllocError> {
     let mut links = Vec::new(alloc);
     for line in text.lines() {
@@ -49,10 +49,10 @@ fn links_of(alloc: Global, text: &str) -> Result<Vec<Link<Global>>, AllocError> 
     Ok(links)
 }
 
-// What an audit answers.
+// The answer of an audit.
 type Audited = Result<Verdict<Global>, AuditFault>;
 
-// The audit of two lists and a chain of links.
+// Audits two lists by a chain of links.
 fn by_chain<T: TreeHash>(
     alloc: Global,
     h: T,
@@ -64,7 +64,7 @@ fn by_chain<T: TreeHash>(
     audit_chain(alloc, h, old, new, links.as_slice())
 }
 
-// The audit of two lists and one proof.
+// Audits two lists by one proof.
 fn by_proof<T: TreeHash>(
     alloc: Global,
     h: T,
@@ -76,7 +76,7 @@ fn by_proof<T: TreeHash>(
     audit_tree(alloc, h, old, new, proof.as_slice())
 }
 
-// The audit of two lists that words name: of one proof, or of a chain of links.
+// Audits the two lists that words name, by one proof or a chain of links.
 fn audit<T: TreeHash>(
     alloc: Global,
     h: T,
@@ -98,7 +98,7 @@ fn audit<T: TreeHash>(
     )
 }
 
-/// Writes what a call answers.
+/// Writes the answer of a call.
 pub(crate) fn answer(alloc: Global, words: &mut Words<'_>, text: &str, out: &mut String) -> Told {
     let is_chain = words.next() == "chain";
     match words.next() {

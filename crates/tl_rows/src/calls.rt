@@ -11,10 +11,10 @@ use tl_note::Verifier;
 use tl_publisher::{AttachFault, Operator, PublishFault, RequireBack, RunningLog};
 use tl_sequencer::TakeFault;
 
-/// The witnesses that steps are to require, the next ones last.
+/// The witnesses that steps require, the next ones last.
 pub(crate) type Witnesses = Vec<Vec<Box<dyn Verifier>>>;
 
-/// Publishes the log: its size.
+/// Publishes the log, and writes its size.
 pub(crate) fn publish<R: Wait + Drop>(operator: &mut Operator<R>, step: &mut Step<'_>) -> Told
     requires { IsOperating (⟦<Operator<R> as RunningLog>⟧.state operator.old) }
     ensures { IsKept (⟦<Operator<R> as RunningLog>⟧.state operator.old)
@@ -27,7 +27,7 @@ pub(crate) fn publish<R: Wait + Drop>(operator: &mut Operator<R>, step: &mut Ste
     }
 }
 
-/// Proposes the log: its size and its note.
+/// Proposes the log, and writes its size and its note.
 pub(crate) fn propose<R: Wait + Drop>(operator: &mut Operator<R>, step: &mut Step<'_>) -> Told
     requires { IsOperating (⟦<Operator<R> as RunningLog>⟧.state operator.old) }
     ensures { IsKept (⟦<Operator<R> as RunningLog>⟧.state operator.old)
@@ -40,7 +40,7 @@ pub(crate) fn propose<R: Wait + Drop>(operator: &mut Operator<R>, step: &mut Ste
     }
 }
 
-/// Attaches the lines of witnesses that a word gives: the size that is published.
+/// Attaches the lines of witnesses that a word gives, and writes the published size.
 pub(crate) fn attach<R: Wait + Drop>(
     alloc: Global,
     operator: &mut Operator<R>,
@@ -59,7 +59,7 @@ pub(crate) fn attach<R: Wait + Drop>(
     }
 }
 
-/// Requires so many of the witnesses that are next, or reports why not and how many came back.
+/// Requires this many of the next witnesses, or writes why not and how many came back.
 pub(crate) fn require<R: Wait + Drop>(
     operator: &mut Operator<R>,
     witnesses: &mut Witnesses,
@@ -79,8 +79,8 @@ pub(crate) fn require<R: Wait + Drop>(
     }
 }
 
-/// Ends a lane: how many entries were left of it, or why not and the lane that comes back. If an allocation fails, the
-/// end that comes back is put once more.
+/// Ends a lane, and writes how many entries were left of it, or why not and the lane that comes back. If an
+/// allocation fails, the end that comes back is put once more.
 pub(crate) fn end<R: Wait + Drop>(
     operator: &mut Operator<R>,
     lanes: &mut Vec<Sender>,

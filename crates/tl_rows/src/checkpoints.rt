@@ -12,7 +12,7 @@ use tl_testing::LengthKey;
 // The identifier of each witness's key.
 const WITNESS_ID: u32 = 0x0A0B0C0D;
 
-/// Its parts, and its text written back.
+/// Writes its parts, and its text again.
 impl Shown for Checkpoint<Global> {
     fn show(&self, out: &mut String) -> Told {
         write!(out, "{:?} {} ", self.origin, self.size)?;
@@ -22,7 +22,7 @@ impl Shown for Checkpoint<Global> {
     }
 }
 
-// The text of a checkpoint of these parts, without an extension line.
+// Writes the text of a checkpoint of these parts, without an extension line.
 fn of_parts(alloc: Global, words: &mut Words<'_>, out: &mut String) -> Told {
     let checkpoint = Checkpoint {
         origin: String::from_str(alloc, words.next())?,
@@ -33,13 +33,13 @@ fn of_parts(alloc: Global, words: &mut Words<'_>, out: &mut String) -> Told {
     put(out, write(alloc, &checkpoint))
 }
 
-// What a witness signs of a text at a time.
+// Writes what a witness signs of a text at a time.
 fn message(alloc: Global, time: u64, text: &str, out: &mut String) -> Told {
     let message = cosign_message(alloc, time, text)?;
     write!(out, "{} {message:?}", message.len())
 }
 
-// The line of a witness of this name.
+// Writes the line of a witness of this name.
 fn cosigned(alloc: Global, words: &mut Words<'_>, text: &str, out: &mut String) -> Told {
     let time = words.number();
     let key = LengthKey::new(alloc, words.next(), WITNESS_ID)?;
@@ -47,7 +47,7 @@ fn cosigned(alloc: Global, words: &mut Words<'_>, text: &str, out: &mut String) 
     put(out, cosign_line(alloc, alloc, text, time, &*key))
 }
 
-// The time of the first line of a note, if it is the cosignature of the note's text by a witness.
+// Writes the time of the first line of a note, if it is the cosignature of the note's text by a witness.
 fn check(alloc: Global, view: &NoteView<'_, Global>, key: &dyn Verifier, out: &mut String) -> Told {
     match view.signatures.first() {
         Some(line) => {
@@ -58,7 +58,7 @@ fn check(alloc: Global, view: &NoteView<'_, Global>, key: &dyn Verifier, out: &m
     }
 }
 
-// The same by a witness of this name.
+// Writes that time for a witness of this name.
 fn checked(alloc: Global, name: &str, note: &str, out: &mut String) -> Told {
     let key = LengthKey::new(alloc, name, WITNESS_ID)?;
     let key: Box<dyn Verifier> = Box::new(alloc, key)?;
@@ -68,7 +68,7 @@ fn checked(alloc: Global, name: &str, note: &str, out: &mut String) -> Told {
     }
 }
 
-// Which of these witnesses cosigned a note's text.
+// Writes which of these witnesses cosigned a note's text.
 fn first(
     alloc: Global,
     view: &NoteView<'_, Global>,
@@ -82,7 +82,7 @@ fn first(
     write!(out, "{found:?}")
 }
 
-// The same of witnesses of these names.
+// Writes which of the witnesses of these names did.
 fn first_of(alloc: Global, names: &str, note: &str, out: &mut String) -> Told {
     let mut witnesses: Vec<Box<dyn Verifier>> = Vec::new(alloc);
     for name in names.split(',') {
@@ -95,7 +95,7 @@ fn first_of(alloc: Global, names: &str, note: &str, out: &mut String) -> Told {
     }
 }
 
-/// Writes what a call answers.
+/// Writes the answer of a call.
 pub(crate) fn answer(alloc: Global, words: &mut Words<'_>, text: &str, out: &mut String) -> Told {
     match words.next() {
         "parse" => put(out, parse(alloc, text)),

@@ -58,7 +58,7 @@ fn add(edge: &mut RightEdge, entry: &[u8], out: &mut String) -> Told {
     Ok(())
 }
 
-// The full tiles that entries fill one after another, and the edge in the end.
+// Writes the full tiles that entries fill one after another, and the edge at the end.
 fn singly(alloc: Global, word: &str, out: &mut String) -> Told {
     let mut edge = Edge::new(alloc, Sha256Tree);
     for entry in &entries_of(alloc, word)? {
@@ -67,7 +67,7 @@ fn singly(alloc: Global, word: &str, out: &mut String) -> Told {
     put_edge(out, &edge)
 }
 
-// Adds so many of the numbers from 0 up to an edge, and writes the full tiles that they fill.
+// Adds this many of the numbers from 0 up to an edge, and writes the full tiles that they fill.
 fn add_batch(alloc: Global, edge: &mut RightEdge, count: u64, out: &mut String) -> Told {
     let entries = numbered(alloc, (count % 100_000) as u32)?;
     if edge.size() < MOST && entries.len() < 100_000 {
@@ -77,7 +77,7 @@ fn add_batch(alloc: Global, edge: &mut RightEdge, count: u64, out: &mut String) 
     Ok(())
 }
 
-// The edge of so many of the numbers from 0 up, put in one by one.
+// Returns the edge of this many of the numbers from 0 up, added one by one.
 fn edge_of(alloc: Global, count: u64) -> Result<RightEdge, AllocError> {
     let mut edge = Edge::new(alloc, Sha256Tree);
     for entry in &numbered(alloc, (count % 100_000) as u32)? {
@@ -88,12 +88,12 @@ fn edge_of(alloc: Global, count: u64) -> Result<RightEdge, AllocError> {
     Ok(edge)
 }
 
-// The edge of so many full tiles.
+// Returns the edge of this many full tiles.
 fn edge_of_tiles(alloc: Global, count: u64) -> Result<RightEdge, AllocError> {
     edge_of(alloc, count.saturating_mul(256))
 }
 
-// Puts an edge of full tiles behind another.
+// Appends an edge of full tiles to another.
 fn join(edge: &mut RightEdge, next: &RightEdge) -> Told {
     let are_whole = edge.size() % 256 == 0 && next.size() % 256 == 0;
     if are_whole && edge.size() < 4_000_000_000 && next.size() < 65_536 {
@@ -102,7 +102,7 @@ fn join(edge: &mut RightEdge, next: &RightEdge) -> Told {
     Ok(())
 }
 
-// The edge of so many copies of the edge of so many full tiles, and of some tiles more.
+// Writes an edge of copies of the edge of full tiles, and of some tiles more; the words say how many.
 fn repeated(alloc: Global, words: &mut Words<'_>, out: &mut String) -> Told {
     let next = edge_of_tiles(alloc, words.number())?;
     let mut edge = Edge::new(alloc, Sha256Tree);
@@ -113,7 +113,8 @@ fn repeated(alloc: Global, words: &mut Words<'_>, out: &mut String) -> Told {
     put_edge(out, &edge)
 }
 
-// An edge after each of some batches: of so many of the numbers from 0 up, or of others with so many full tiles.
+// Writes an edge after each of some batches: of this many of the numbers from 0 up, or of others with this many full
+// tiles.
 fn grown(alloc: Global, call: &str, counts: &str, out: &mut String) -> Told {
     let mut edge = Edge::new(alloc, Sha256Tree);
     out.push_str(call)?;
@@ -129,7 +130,7 @@ fn grown(alloc: Global, call: &str, counts: &str, out: &mut String) -> Told {
     Ok(())
 }
 
-/// Writes what a call answers.
+/// Writes the answer of a call.
 pub(crate) fn answer(alloc: Global, words: &mut Words<'_>, out: &mut String) -> Told {
     match words.next() {
         "singly" => singly(alloc, words.next(), out),

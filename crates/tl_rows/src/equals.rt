@@ -1,5 +1,5 @@
-//! Rows of logs of equal entries, of any size: the hashes of one level are all the same. They are read from checked
-//! tiles, and need no store.
+//! Rows of logs of equal entries, of any size. All hashes of one level are the same, so they are read from checked
+//! tiles without a store.
 
 use crate::proofs::{Claim, accepts, made};
 use crate::words::{Told, Words, put, unknown};
@@ -41,7 +41,7 @@ impl TileSource for Equal {
     }
 }
 
-// The root of so many entries, at least one and at most 2^63 - 1.
+// Returns the root of this many entries, at least one and at most 2^63 - 1.
 fn root_of(log: &Equal, size: u64) -> Hash {
     let mut root = None;
     for level in 0..63usize {
@@ -58,7 +58,7 @@ fn root_of(log: &Equal, size: u64) -> Hash {
 
 type Reader = TileHashReader<Sha256Tree, Equal, Global>;
 
-// A reader of a log of this size.
+// Returns a reader of a log of this size.
 fn reader_of(alloc: Global, size: u64) -> Reader {
     let log = equal_log();
     TileHashReader::new(alloc, Sha256Tree, size, root_of(&log, size), log)
@@ -90,7 +90,7 @@ fn proof(alloc: Global, is_record: bool, words: &mut Words<'_>, out: &mut String
     }
 }
 
-// A claim that the entry at an index is in the log.
+// Returns the claim that the entry at an index is in the log.
 fn claim<'a>(log: &Equal, index: u64, proof: &'a [Hash]) -> InclusionClaim<'a> {
     InclusionClaim {
         index,
@@ -99,7 +99,7 @@ fn claim<'a>(log: &Equal, index: u64, proof: &'a [Hash]) -> InclusionClaim<'a> {
     }
 }
 
-// Whether four inclusion proofs of entries at these places are accepted together.
+// Reports whether four inclusion proofs of entries at these indexes are accepted together.
 fn accepted(size: u64, places: [u64; 4], proofs: &[Vec<Hash>]) -> bool {
     let [a, b, c, d] = proofs else {
         return false;
@@ -114,7 +114,7 @@ fn accepted(size: u64, places: [u64; 4], proofs: &[Vec<Hash>]) -> bool {
     check_records(Sha256Tree, size, root_of(&log, size), &claims)
 }
 
-// Whether four proofs that are made in one read are accepted together, the last of them at another index.
+// Writes whether four proofs made in one read are accepted together, the last of them at another index.
 fn records(alloc: Global, words: &mut Words<'_>, out: &mut String) -> Told {
     let size = words.number();
     let reader = reader_of(alloc, size);
@@ -133,13 +133,13 @@ fn records(alloc: Global, words: &mut Words<'_>, out: &mut String) -> Told {
     }
 }
 
-// The head of the first entries of a log.
+// Writes the head of the first entries of a log.
 fn head(alloc: Global, words: &mut Words<'_>, out: &mut String) -> Told {
     let reader = reader_of(alloc, words.number());
     put(out, tree_hash(alloc, Sha256Tree, words.number(), &reader))
 }
 
-// The hash with a number, or the fault and how many tiles were fetched.
+// Writes the hash with a number, or the fault and how many tiles were fetched.
 fn hash(alloc: Global, reader: &Reader, number: u64, out: &mut String) -> Told {
     let mut fetched = FetchedTiles::new(alloc);
     let answer = reader.read_checked(alloc, &[number], &mut fetched);
@@ -151,7 +151,7 @@ fn hash(alloc: Global, reader: &Reader, number: u64, out: &mut String) -> Told {
     Ok(())
 }
 
-// The same of a subtree: the one at this place of a level.
+// Writes the same of a subtree, by its place in a level.
 fn subtree(alloc: Global, words: &mut Words<'_>, out: &mut String) -> Told {
     let reader = reader_of(alloc, words.number());
     let level = (words.number() % 63) as u32;
@@ -162,7 +162,7 @@ fn subtree(alloc: Global, words: &mut Words<'_>, out: &mut String) -> Told {
     hash(alloc, &reader, stored_index(level, place), out)
 }
 
-// The bytes of a tile of the log of 2^62 entries, of one of three levels.
+// Writes the bytes of a tile of the log of 2^62 entries, of one of three levels.
 fn tile(alloc: Global, words: &mut Words<'_>, out: &mut String) -> Told {
     let (level, index, width) = (words.number(), words.number(), words.number());
     if width == 0 || width > 256 {
@@ -190,14 +190,14 @@ fn tile(alloc: Global, words: &mut Words<'_>, out: &mut String) -> Told {
     put(out, tile_bytes(alloc, tile, &reader_of(alloc, 1 << 62)))
 }
 
-// The first hash, where the reader is told another root.
+// Writes the first hash as a reader with another root reads it.
 fn under_another_root(alloc: Global, size: u64, out: &mut String) -> Told {
     let root = leaf_hash(Sha256Tree, b"other");
     let reader = TileHashReader::new(alloc, Sha256Tree, size, root, equal_log());
     hash(alloc, &reader, 0, out)
 }
 
-/// Writes what a call answers.
+/// Writes the answer of a call.
 pub(crate) fn answer(alloc: Global, words: &mut Words<'_>, out: &mut String) -> Told {
     match words.next() {
         "head" => head(alloc, words, out),

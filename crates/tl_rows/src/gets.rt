@@ -1,5 +1,5 @@
-//! Rows of a request over HTTP by GET: the body of the response or its fault, and how many bytes were written. The
-//! words are the limit of the body, the host and the target, both in hexadecimal.
+//! Rows of a GET request over HTTP: the body of the response or its fault, and how many bytes were written. The words
+//! are the limit of the body, the host and the target, both in hexadecimal.
 
 use crate::words::{Told, Words, bytes_of, put};
 use std::alloc::Global;
@@ -7,10 +7,10 @@ use std::str;
 use tl_device::Counted;
 use tl_http::get;
 
-// More bytes than any request has, so that no write fails for want of memory.
+// More bytes than any request has, so that no write runs out of memory.
 const ROOM: usize = 4_096;
 
-/// Writes what a call answers to a response.
+/// Writes the answer of a call to a response.
 pub(crate) fn answer(
     alloc: Global,
     words: &mut Words<'_>,

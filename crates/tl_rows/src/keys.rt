@@ -9,7 +9,7 @@ use tl_key::{
 };
 use tl_note::{Signer, Verifier};
 
-// Writes a verifier's key: its name, its identifier, its public key and its text.
+// Writes a verifier key: its name, its identifier, its public key and its text.
 fn put_verifier<K: KeyKind>(alloc: Global, key: &VerifierKey<K, Global>, out: &mut String) -> Told {
     let text = write_verifier_key(alloc, key)?;
     let (name, id) = (Verifier::name(key), Verifier::key_id(key));
@@ -18,7 +18,7 @@ fn put_verifier<K: KeyKind>(alloc: Global, key: &VerifierKey<K, Global>, out: &m
     write!(out, " {text}")
 }
 
-// The same of an answer, or its fault.
+// Writes the verifier key of an answer, or its fault.
 fn put_verifier_or<K: KeyKind>(
     alloc: Global,
     answer: Result<VerifierKey<K, Global>, KeyFault>,
@@ -30,7 +30,7 @@ fn put_verifier_or<K: KeyKind>(
     }
 }
 
-// Writes a signer's key: its name, its identifier, its text and its verifier's.
+// Writes a signer key: its name, its identifier, its text and the verifier's.
 fn put_signer<K: KeyKind>(alloc: Global, key: &SignerKey<K, Global>, out: &mut String) -> Told {
     let text = write_signer_key(alloc, key)?;
     let (name, id) = (Signer::name(key), Signer::key_id(key));
@@ -40,7 +40,7 @@ fn put_signer<K: KeyKind>(alloc: Global, key: &SignerKey<K, Global>, out: &mut S
     out.push_str(text.as_str())
 }
 
-// The same of an answer, or its fault.
+// Writes the signer key of an answer, or its fault.
 fn put_signer_or<K: KeyKind>(
     alloc: Global,
     answer: Result<SignerKey<K, Global>, KeyFault>,
@@ -52,7 +52,7 @@ fn put_signer_or<K: KeyKind>(
     }
 }
 
-// What a signer's key signs.
+// Writes what a signer key signs.
 fn signed<K: KeyKind>(alloc: Global, text: &str, message: &[u8], out: &mut String) -> Told {
     let key: Result<SignerKey<K, Global>, KeyFault> = read_signer_key(alloc, text);
     match key {
@@ -64,7 +64,7 @@ fn signed<K: KeyKind>(alloc: Global, text: &str, message: &[u8], out: &mut Strin
     }
 }
 
-// Whether a signature stands under a verifier's key.
+// Writes whether a signature is valid under a verifier key.
 fn verified<K: KeyKind>(
     alloc: Global,
     text: &str,
@@ -80,7 +80,7 @@ fn verified<K: KeyKind>(
     }
 }
 
-// Whether these bytes are no text of a key of notes.
+// Reports whether these bytes are no text of a key of notes.
 fn is_malformed(alloc: Global, bytes: &[u8]) -> Result<bool, AllocError> {
     let text = str::from_utf8(bytes).unwrap_or("");
     let verifier: Result<VerifierKey<Note, Global>, KeyFault> = read_verifier_key(alloc, text);
@@ -91,7 +91,8 @@ fn is_malformed(alloc: Global, bytes: &[u8]) -> Result<bool, AllocError> {
     }
 }
 
-// How many texts are no key's, of those with another character at this place, none, or one more before it.
+// Returns how many changed texts are no key's: with another character at this place, with none there, or with one
+// more before it.
 fn malformed_at(alloc: Global, text: &str, place: usize) -> Result<u64, AllocError> {
     let mut count = 0u64;
     for other in 0..130u8 {
@@ -110,7 +111,7 @@ fn malformed_at(alloc: Global, text: &str, place: usize) -> Result<u64, AllocErr
     Ok(count)
 }
 
-// The same of all places.
+// Writes how many changed texts are no key's, over all places.
 fn malformed(alloc: Global, text: &str, out: &mut String) -> Told {
     let mut count = 0u64;
     for place in 0..text.len() {
@@ -120,7 +121,7 @@ fn malformed(alloc: Global, text: &str, out: &mut String) -> Told {
     write!(out, "{count} malformed of 130 at each of {places} places")
 }
 
-// The rows of keys of one kind.
+// Writes the answer of a call with keys of one kind.
 fn answer_of<K: KeyKind>(
     alloc: Global,
     words: &mut Words<'_>,
@@ -141,7 +142,7 @@ fn answer_of<K: KeyKind>(
     }
 }
 
-/// Writes what a call answers.
+/// Writes the answer of a call.
 pub(crate) fn answer(alloc: Global, words: &mut Words<'_>, text: &str, out: &mut String) -> Told {
     match words.next() {
         "note" => answer_of::<Note>(alloc, words, text, out),

@@ -11,8 +11,8 @@ use tl_sequencer::{OpenFault, Sequencer, TakeFault, open, open_from};
 
 type Log = Sequencer<Global, Global>;
 
-// Ends a lane: how many entries that took, or why not and the lane that comes back. If an allocation fails, the end
-// that comes back is put once more.
+// Ends a lane, and writes how many entries that took, or why not and the lane that comes back. If an allocation
+// fails, the end that comes back is put once more.
 fn end(log: &mut Log, submitters: &mut Vec<Sender>, lane: u32, step: &mut Step<'_>) -> Told
     requires { AreSenders log.old submitters.old.items }
     ensures rings { rings_of log.new ≡ rings_of log.old }
@@ -38,7 +38,7 @@ fn end(log: &mut Log, submitters: &mut Vec<Sender>, lane: u32, step: &mut Step<'
     }
 }
 
-// Takes up to so many entries of a lane: how many.
+// Takes up to `most` entries of a lane, and writes how many it took.
 fn take(log: &mut Log, lane: u32, most: u64, step: &mut Step<'_>) -> Told
     ensures rings { rings_of log.new ≡ rings_of log.old }
 {
@@ -49,7 +49,7 @@ fn take(log: &mut Log, lane: u32, most: u64, step: &mut Step<'_>) -> Told
     }
 }
 
-// Reports what is asked of a log.
+// Writes what is asked of a log.
 fn ask(log: &Log, words: &[&str], step: &mut Step<'_>) -> Told {
     match words {
         ["len"] => step.tell(log.len()),
@@ -134,7 +134,7 @@ fn opened_from(
     }
 }
 
-// Does the steps of a row with a log that was opened, or reports why it was not.
+// Does the steps of a row with the log that was opened, or writes why it wasn't.
 fn begin(
     alloc: Global,
     opened: Result<(Log, Vec<Sender>), OpenFault>,

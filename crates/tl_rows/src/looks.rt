@@ -8,7 +8,7 @@ use tl_publisher::{Board, BoardReader, GetFault, Head};
 use tl_sequencer::Complete;
 use tl_tile::{Resource, Tile};
 
-// The resource that words name.
+// Returns the resource that words name.
 fn resource_of(words: &[&str]) -> Resource {
     match words {
         ["tile", level, index, width] => Resource::Tile(Tile {
@@ -24,7 +24,7 @@ fn resource_of(words: &[&str]) -> Resource {
     }
 }
 
-// Reports the size that was found.
+// Writes the size that was found.
 fn tell_size(found: Result<Option<Head>, GetFault>, step: &mut Step<'_>) -> Told {
     match found {
         Ok(Some(head)) => step.tell(head.size),
@@ -33,7 +33,7 @@ fn tell_size(found: Result<Option<Head>, GetFault>, step: &mut Step<'_>) -> Told
     }
 }
 
-// Reports what was found: its bytes, how many they are, or the text.
+// Writes what was found: its bytes, how many they are, or the text.
 fn tell_found(kind: &str, found: Result<Option<Vec<u8>>, GetFault>, step: &mut Step<'_>) -> Told {
     let bytes = match &found {
         Ok(Some(bytes)) => bytes.as_slice(),
@@ -48,7 +48,7 @@ fn tell_found(kind: &str, found: Result<Option<Vec<u8>>, GetFault>, step: &mut S
     }
 }
 
-/// What a reader sees.
+/// Writes what a reader sees.
 pub(crate) fn see(
     alloc: Global,
     reader: &mut BoardReader<Global>,
@@ -62,7 +62,7 @@ pub(crate) fn see(
     }
 }
 
-/// What the board of a log that was closed keeps.
+/// Writes what the board of a closed log keeps.
 pub(crate) fn kept<R: Wait + Drop>(
     alloc: Global,
     board: &mut Board<R>,
@@ -76,7 +76,7 @@ pub(crate) fn kept<R: Wait + Drop>(
     }
 }
 
-/// What is asked of a log after its close.
+/// Writes what is asked of a log after its close.
 pub(crate) fn ask(log: &Complete<Global, Global>, words: &[&str], step: &mut Step<'_>) -> Told {
     match words {
         ["len"] => step.tell(log.len()),

@@ -1,13 +1,13 @@
-//! Runs rows of worked examples over the libraries, as standard input has them, and prints what each call answers: the
-//! answers are stored beside, so that the gate compares them.
+//! Runs rows of worked examples over the libraries, as standard input has them, and prints the answer of each call.
+//! The gate compares the answers with those that are stored beside.
 //!
 //! A line `$ family call ..` begins a row and names the call. Each line `< ..` after it is a line of the row's input,
-//! a line `<- ..` a piece of it with no newline, and a line `<x ..` bytes of it in hexadecimal. A line `> ..` is a step
-//! of a log (`steps`) or of a witness (`witness`). Other lines, and what stands before the first row, of which there is
-//! a line at least, say what the rows are for.
+//! a line `<- ..` a piece of it with no newline, and a line `<x ..` bytes of it in hexadecimal. A line `> ..` is a
+//! step of a log (`steps`) or of a witness (`witness`). Other lines, and at least one line before the first row, say
+//! what the rows are for.
 //!
-//! If an allocation fails in a row or a step, the line `.. out of memory` is printed, and the row or the step is tried
-//! once more: with that line left out, the output is the same as if none had failed.
+//! If an allocation fails in a row or a step, the line `.. out of memory` is printed, and the row or the step is
+//! tried once more. With that line left out, the output is the same as if none had failed.
 #![tactic(auto)]
 
 mod audits;
@@ -41,7 +41,7 @@ use std::alloc::{AllocError, Global};
 use std::sync::Wait;
 use std::{io, str};
 
-// More bytes than any row prints, so that no answer is lost for want of memory.
+// More bytes than any row prints, so that no answer is lost for lack of memory.
 const ROOM: usize = 65_536;
 
 // Adds what a line of the script holds to the input of a row.
@@ -59,7 +59,7 @@ fn add_line(alloc: Global, input: &mut Vec<u8>, line: &str) -> Told {
     }
 }
 
-// The input that the lines of a row hold.
+// Returns the input that the lines of a row hold.
 fn input_of(alloc: Global, lines: &str) -> Result<Vec<u8>, AllocError> {
     let mut input = Vec::new(alloc);
     for line in lines.split('\n') {
@@ -68,7 +68,7 @@ fn input_of(alloc: Global, lines: &str) -> Result<Vec<u8>, AllocError> {
     Ok(input)
 }
 
-// The steps that the lines of a row hold.
+// Returns the steps that the lines of a row hold.
 fn steps_of<'a>(alloc: Global, lines: &'a str) -> Result<Vec<&'a str>, AllocError> {
     let mut steps = Vec::new(alloc);
     for line in lines.split('\n') {
@@ -79,7 +79,7 @@ fn steps_of<'a>(alloc: Global, lines: &'a str) -> Result<Vec<&'a str>, AllocErro
     Ok(steps)
 }
 
-// Writes what a call without steps answers to its input.
+// Writes the answer of a call without steps to its input.
 fn answer(alloc: Global, words: &mut Words<'_>, input: &[u8], out: &mut String) -> Told {
     let text = str::from_utf8(input).unwrap_or("");
     match words.next() {
@@ -118,7 +118,7 @@ fn answer_steps<R: Wait>(
     }
 }
 
-// Writes the call of a row, and what comes of it, a line each.
+// Writes the call of a row and its answer, a line each.
 fn answer_row<R: Wait>(rt: &R, alloc: Global, row: &str, out: &mut String) -> Told {
     let (call, lines) = row.split_once('\n').unwrap_or((row, ""));
     write!(out, "$ {call}\n")?;
@@ -133,7 +133,7 @@ fn answer_row<R: Wait>(rt: &R, alloc: Global, row: &str, out: &mut String) -> To
     out.push('\n')
 }
 
-// Whether an allocation failed in the place of an answer.
+// Reports whether an allocation failed and no answer was written.
 fn lacks_memory(answered: Told, out: &str) -> bool {
     answered.is_err() || out.contains("OutOfMemory")
 }

@@ -21,7 +21,7 @@ fn put_line(out: &mut String, line: &SigView<'_>) -> Told {
     put_hex(out, signature.as_slice())
 }
 
-/// How many signature lines there are, and each.
+/// Writes how many signature lines there are, and each.
 impl Shown for Vec<SigView<'_>> {
     fn show(&self, out: &mut String) -> Told {
         write!(out, "{} lines", self.len())?;
@@ -32,7 +32,7 @@ impl Shown for Vec<SigView<'_>> {
     }
 }
 
-/// The text and the lines.
+/// Writes the text and the lines.
 impl Shown for NoteView<'_, Global> {
     fn show(&self, out: &mut String) -> Told {
         write!(out, "{:?} ", self.text)?;
@@ -40,7 +40,7 @@ impl Shown for NoteView<'_, Global> {
     }
 }
 
-/// The places of the lines that are verified and of those that aren't, and the text.
+/// Writes the indexes of the lines that are verified and of those that aren't, and the text.
 impl Shown for OpenedNote<'_, Global> {
     fn show(&self, out: &mut String) -> Told {
         let text = self.note.text;
@@ -70,7 +70,7 @@ fn open_keyed(alloc: Global, note: &str, text: &str, out: &mut String) -> Told {
     }
 }
 
-// The note that length keys make of a text, among them keys that give no signature.
+// Writes the note that length keys make of a text, among them keys that give no signature.
 fn sign_length(alloc: Global, text: &str, names: &str, out: &mut String) -> Told {
     if names.is_empty() {
         return put(out, sign_note(alloc, alloc, text, &[]));
@@ -87,7 +87,7 @@ fn sign_length(alloc: Global, text: &str, names: &str, out: &mut String) -> Told
     put(out, sign_note(alloc, alloc, text, signers.as_slice()))
 }
 
-// The note that the key with this text makes of another.
+// Writes the note that the key with this text makes of another text.
 fn sign_keyed(alloc: Global, text: &str, key: &str, out: &mut String) -> Told {
     let key: Result<NoteSigner<Global>, KeyFault> = read_signer_key(alloc, key);
     match key {
@@ -108,7 +108,7 @@ fn opened(alloc: Global, words: &mut Words<'_>, note: &str, out: &mut String) ->
     }
 }
 
-// The same of signing.
+// Signs a text by length keys, or by a key with a text.
 fn signed(alloc: Global, words: &mut Words<'_>, text: &str, out: &mut String) -> Told {
     if words.next() == "length" {
         sign_length(alloc, text, words.left, out)
@@ -117,7 +117,7 @@ fn signed(alloc: Global, words: &mut Words<'_>, text: &str, out: &mut String) ->
     }
 }
 
-// A signature line.
+// Writes a signature line.
 fn line(alloc: Global, words: &mut Words<'_>, out: &mut String) -> Told {
     let name = words.next();
     let id = (words.number() % (1 << 32)) as u32;
@@ -128,7 +128,7 @@ fn line(alloc: Global, words: &mut Words<'_>, out: &mut String) -> Told {
     )
 }
 
-/// Writes what a call answers.
+/// Writes the answer of a call.
 pub(crate) fn answer(alloc: Global, words: &mut Words<'_>, text: &str, out: &mut String) -> Told {
     match words.next() {
         "parse" => put(out, parse_note(alloc, text)),

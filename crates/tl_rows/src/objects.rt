@@ -1,5 +1,5 @@
-//! Rows of objects that are put into a bucket and got from it, under the key of AWS's examples: what is answered to a
-//! response, and what was written before it.
+//! Rows of objects that are put into a bucket and got from it, under the key of AWS's examples: the answer to a
+//! response, and the request before it.
 
 use crate::requests::KEY;
 use crate::words::{Told, Words, bytes_of};
@@ -21,10 +21,10 @@ const BUCKET: Bucket<'static> = Bucket {
 // The most bytes of an object that is got.
 const MOST: usize = 32;
 
-// More bytes than any request has, so that no write fails for want of memory.
+// More bytes than any request has, so that no write runs out of memory.
 const ROOM: usize = 4_096;
 
-// A text of bytes that are one.
+// Returns the text that these bytes are.
 fn text_of(bytes: &[u8]) -> &str {
     str::from_utf8(bytes).unwrap_or("no text")
 }
@@ -39,7 +39,7 @@ fn put_rest(etag: &Option<Vec<u8>>, stays_open: bool, body: &[u8], out: &mut Str
     write!(out, "\n{}", text_of(body))
 }
 
-// Writes what a put answers.
+// Writes the answer of a put.
 fn put_put(outcome: &Result<PutReply<Global>, ObjectFault>, out: &mut String) -> Told {
     match outcome {
         Ok(reply) => {
@@ -53,7 +53,7 @@ fn put_put(outcome: &Result<PutReply<Global>, ObjectFault>, out: &mut String) ->
     }
 }
 
-// Writes what a get answers.
+// Writes the answer of a get.
 fn put_got(outcome: &Result<GetReply<Global>, ObjectFault>, out: &mut String) -> Told {
     match outcome {
         Ok(reply) => {
@@ -67,7 +67,7 @@ fn put_got(outcome: &Result<GetReply<Global>, ObjectFault>, out: &mut String) ->
     }
 }
 
-// Writes the request that was written, without the carriage returns of its lines.
+// Writes the request without the carriage returns of its lines.
 fn put_written(written: &[u8], out: &mut String) -> Told {
     for line in text_of(written).split("\r\n") {
         write!(out, "\n> {line}")?;
@@ -75,7 +75,7 @@ fn put_written(written: &[u8], out: &mut String) -> Told {
     Ok(())
 }
 
-// Writes what a get of the object with this path answers to a response.
+// Writes the answer of a get of the object with this path to a response.
 fn get(alloc: Global, moment: &Moment, path: &str, response: &[u8], out: &mut String) -> Told {
     let mut reader = Counted::new(response);
     let mut writer = Counted::new(Vec::with_capacity(alloc, ROOM)?);
@@ -84,7 +84,7 @@ fn get(alloc: Global, moment: &Moment, path: &str, response: &[u8], out: &mut St
     put_written(writer.into_inner().as_slice(), out)
 }
 
-// The condition that the words say: an entity tag where they are no other word.
+// Returns the condition that the words say: an entity tag if they are no other word.
 fn condition_of(words: &str) -> Condition<'_> {
     match words {
         "always" => Condition::Always,
@@ -93,7 +93,7 @@ fn condition_of(words: &str) -> Condition<'_> {
     }
 }
 
-// Writes what a put of an object answers to a response.
+// Writes the answer of a put of an object to a response.
 fn put(
     alloc: Global,
     moment: &Moment,
@@ -117,7 +117,7 @@ fn put(
     put_written(writer.into_inner().as_slice(), out)
 }
 
-// The rows of objects.
+// Writes the answer of a call at a moment.
 fn answer_at(
     alloc: Global,
     call: &str,
@@ -147,7 +147,7 @@ fn answer_at(
     )
 }
 
-/// Writes what a call answers.
+/// Writes the answer of a call.
 pub(crate) fn answer(alloc: Global, words: &mut Words<'_>, text: &str, out: &mut String) -> Told {
     let call = words.next();
     match Moment::from_unix_seconds(words.number()) {

@@ -1,4 +1,4 @@
-//! Rows of logs that are opened, or go on from what was published, and then are done steps with.
+//! Rows of logs that are opened new, or go on from what was published, and of steps on them.
 //!
 //! | A log is opened by | |
 //! |---|---|
@@ -9,17 +9,17 @@
 //!
 //! | A step | |
 //! |---|---|
-//! | `send LANE ENTRY COUNT` | sends an entry so many times: the number of the last one |
+//! | `send LANE ENTRY COUNT` | sends an entry this often: the number of the last one |
 //! | `take LANE MOST`, `publish`, `propose`, `attach LINES`, `require NEED NAMES`, `end LANE`, `close` | that call |
 //! | `drop` | drops the operator |
 //! | `see size`, `see note`, `see bytes RESOURCE`, `see length RESOURCE` | the reader looks |
 //! | `kept ..` in place of `see ..` | the board is asked after the close |
 //! | `len`, `who PLACE`, `place LANE NUMBER`, `entry PLACE` | of a closed log, or of a sequencer |
 //!
-//! A resource is `checkpoint`, `bundle INDEX WIDTH` or `tile LEVEL INDEX WIDTH`. How entries, bundles and keys are
-//! spelled stands at `bytes_of`, `entries_of` and `keys_of`; in lines, origins and names `|` stands for a newline and
-//! `_` for a space. The key `reluctant` refuses once; `counting` signs with how often it was asked, and with the hash
-//! of what for.
+//! A resource is `checkpoint`, `bundle INDEX WIDTH` or `tile LEVEL INDEX WIDTH`. `bytes_of`, `entries_of` and
+//! `keys_of` say how entries, bundles and keys are spelled. In lines, origins and names `|` stands for a newline and
+//! `_` for a space. The key `reluctant` fails once; the key `counting` signs with the number of its signature and the
+//! hash of the text.
 
 ghost use Rattle.std.specs.Prelude.{IfOk};
 ghost use Rattle.tl_publisher.specs.Operating.{IsOperating};
@@ -46,7 +46,7 @@ const KEY: &str = "example.com/log:01020304";
 // An operator, what sends to its lanes, and its readers.
 type Opened<R> = (Operator<R>, Vec<Sender>, Vec<BoardReader<Global>>);
 
-// Does the steps of a row with a log that was opened, or reports why it was not.
+// Does the steps of a row with the log that was opened, or writes why it wasn't.
 fn begin<R: Wait + Drop, E: Debug + Drop>(
     alloc: Global,
     opened: Result<Opened<R>, E>,
@@ -71,7 +71,7 @@ fn begin<R: Wait + Drop, E: Debug + Drop>(
     }
 }
 
-// The keys of the witnesses that steps require, the last first.
+// Returns the keys of the witnesses that steps require, the last first.
 fn required(alloc: Global, steps: &[&str]) -> Result<Vec<Vec<LengthKey>>, AllocError> {
     let mut all = Vec::new(alloc);
     for line in steps.iter().rev() {
@@ -119,7 +119,7 @@ fn open<R: Wait + Drop>(
     begin(alloc, opened, witnesses, row, out)
 }
 
-// The bundles that words give.
+// Returns the bundles that words give.
 fn bundles_of(alloc: Global, words: &[&str]) -> Result<Vec<Vec<u8>>, AllocError> {
     let mut bundles = Vec::new(alloc);
     for word in words {

@@ -8,7 +8,7 @@ use tl_proof::{ProveFault, check_record, check_tree, prove_record, prove_records
 use tl_records::{InclusionClaim, check_records};
 use tl_store::HashReader;
 
-/// What a proof is to show: of an entry by its index and leaf hash, or of an old size and root.
+/// What a proof has to show: an entry by its index and leaf hash, or an old size and root.
 #[derive(Clone, Copy)]
 pub(crate) struct Claim {
     pub(crate) is_record: bool,
@@ -18,7 +18,7 @@ pub(crate) struct Claim {
     pub(crate) hash: Hash,
 }
 
-/// Whether a proof is accepted.
+/// Reports whether a proof is accepted.
 pub(crate) fn accepts(claim: &Claim, proof: &[Hash]) -> bool {
     let Claim {
         is_record,
@@ -34,7 +34,7 @@ pub(crate) fn accepts(claim: &Claim, proof: &[Hash]) -> bool {
     }
 }
 
-/// The proof of an entry, or that of an old size, from any reader.
+/// Returns the proof of an entry, or that of an old size, from any reader.
 pub(crate) fn made<R: HashReader>(
     alloc: Global,
     is_record: bool,
@@ -49,14 +49,14 @@ pub(crate) fn made<R: HashReader>(
     }
 }
 
-// The proof of an entry, or that of an old size, of the entries that a word names.
+// Writes the proof of an entry, or that of an old size, over the entries that a word names.
 fn proof(alloc: Global, is_record: bool, words: &mut Words<'_>, out: &mut String) -> Told {
     let store = named_store(alloc, words.next())?;
     let size = words.number();
     put(out, made(alloc, is_record, size, words.number(), &store))
 }
 
-/// The proofs, one a line.
+/// Writes the proofs, one a line.
 impl Shown for Vec<Vec<Hash>> {
     fn show(&self, out: &mut String) -> Told {
         write!(out, "{} proofs", self.len())?;
@@ -68,7 +68,7 @@ impl Shown for Vec<Vec<Hash>> {
     }
 }
 
-// The proofs of some entries.
+// Writes the proofs of some entries.
 fn records(alloc: Global, words: &mut Words<'_>, out: &mut String) -> Told {
     let store = named_store(alloc, words.next())?;
     let size = words.number();
@@ -79,7 +79,7 @@ fn records(alloc: Global, words: &mut Words<'_>, out: &mut String) -> Told {
     )
 }
 
-// How many of the proofs are accepted that have one bit of the hash at a place changed.
+// Returns how many of the proofs with one changed bit in the hash at a place are accepted.
 fn accepted_at(
     alloc: Global,
     claim: &Claim,
@@ -102,7 +102,7 @@ fn accepted_at(
     Ok(count)
 }
 
-// How many of the proofs are accepted that have one bit of a hash changed.
+// Returns how many of the proofs with one changed bit in a hash are accepted.
 fn accepted_changed(alloc: Global, claim: &Claim, proof: &[Hash]) -> Result<u64, AllocError> {
     let mut count = 0u64;
     for place in 0..proof.len() {
@@ -111,7 +111,7 @@ fn accepted_changed(alloc: Global, claim: &Claim, proof: &[Hash]) -> Result<u64,
     Ok(count)
 }
 
-// Whether the proof is accepted, and neither without its last hash nor with one more.
+// Reports whether the proof is accepted, but neither without its last hash nor with one more.
 fn is_exact(alloc: Global, claim: &Claim, proof: &[Hash]) -> Result<bool, AllocError> {
     let mut longer = Vec::from_slice(alloc, proof)?;
     longer.push(claim.root)?;
@@ -123,7 +123,7 @@ fn is_exact(alloc: Global, claim: &Claim, proof: &[Hash]) -> Result<bool, AllocE
     Ok(accepts(claim, proof) && !accepts(claim, longer.as_slice()))
 }
 
-// The claim about entries that a word names.
+// Returns the claim about entries that a word names.
 fn claim_of(
     alloc: Global,
     is_record: bool,
@@ -147,7 +147,7 @@ fn claim_of(
     })
 }
 
-// Whether a proof is exact, and, where each bit is tried, how many others are accepted.
+// Writes whether a proof is exact, and, if each bit is tried, how many changed proofs are accepted.
 fn tried(alloc: Global, claim: &Claim, proof: &[Hash], has_bits: bool, out: &mut String) -> Told {
     if !is_exact(alloc, claim, proof)? {
         return out.push_str("not exact");
@@ -160,7 +160,7 @@ fn tried(alloc: Global, claim: &Claim, proof: &[Hash], has_bits: bool, out: &mut
     Ok(())
 }
 
-// The same of the entries that a word names.
+// Writes the same of the entries that a word names.
 fn exact(
     alloc: Global,
     is_record: bool,
@@ -178,7 +178,7 @@ fn exact(
     }
 }
 
-// Whether a proof is accepted.
+// Writes whether a proof is accepted.
 fn checked(alloc: Global, is_record: bool, words: &mut Words<'_>, out: &mut String) -> Told {
     let claim = Claim {
         is_record,
@@ -191,7 +191,7 @@ fn checked(alloc: Global, is_record: bool, words: &mut Words<'_>, out: &mut Stri
     write!(out, "{}", accepts(&claim, proof.as_slice()))
 }
 
-// How many of the proofs of the first entries of a store are those that are made one by one.
+// Returns how many of the proofs of the first entries of a store are the same as those made one by one.
 fn same<R: HashReader>(
     alloc: Global,
     proofs: &[Vec<Hash>],
@@ -208,7 +208,7 @@ fn same<R: HashReader>(
     Ok(count)
 }
 
-// How many proofs that are made together are those that are made one by one.
+// Writes how many of the proofs made together are the same as those made one by one.
 fn together(alloc: Global, words: &mut Words<'_>, out: &mut String) -> Told {
     let store = named_store(alloc, words.next())?;
     let size = words.number();
@@ -235,7 +235,7 @@ struct Line {
     proof: Vec<Hash>,
 }
 
-// The claim of a line.
+// Returns the claim of a line.
 fn line_of(alloc: Global, line: &str) -> Result<Line, AllocError> {
     let mut words = Words { left: line };
     let index = words.number();
@@ -244,7 +244,7 @@ fn line_of(alloc: Global, line: &str) -> Result<Line, AllocError> {
     Ok(Line { index, leaf, proof })
 }
 
-// The claim at a place, and one of no entry where there is none.
+// Returns the claim at a place, or one of no entry if there is none.
 fn claim_at(lines: &[Line], place: usize) -> InclusionClaim<'_> {
     match lines.get(place) {
         Some(line) => InclusionClaim {
@@ -260,7 +260,7 @@ fn claim_at(lines: &[Line], place: usize) -> InclusionClaim<'_> {
     }
 }
 
-// Whether up to nine claims are accepted together.
+// Reports whether up to nine claims are accepted together.
 fn accepted(size: u64, root: Hash, lines: &[Line]) -> bool {
     let claims = [
         claim_at(lines, 0),
@@ -281,7 +281,7 @@ fn accepted(size: u64, root: Hash, lines: &[Line]) -> bool {
     )
 }
 
-// Whether the claims of a text are accepted together, one a line.
+// Writes whether the claims of a text, one a line, are accepted together.
 fn checked_together(alloc: Global, words: &mut Words<'_>, text: &str, out: &mut String) -> Told {
     let size = words.number();
     let mut lines = Vec::new(alloc);
@@ -291,7 +291,7 @@ fn checked_together(alloc: Global, words: &mut Words<'_>, text: &str, out: &mut 
     write!(out, "{}", accepted(size, words.hash(), lines.as_slice()))
 }
 
-/// Writes what a call answers.
+/// Writes the answer of a call.
 pub(crate) fn answer(alloc: Global, words: &mut Words<'_>, text: &str, out: &mut String) -> Told {
     match words.next() {
         "record" => proof(alloc, true, words, out),

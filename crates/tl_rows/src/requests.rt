@@ -1,4 +1,4 @@
-//! Rows of requests that are signed as AWS Signature Version 4 says, under the key of AWS's examples; and of moments.
+//! Rows of requests signed by AWS Signature Version 4, under the key of AWS's examples, and of moments.
 
 use crate::words::{Told, Words, bytes_of, put_hash};
 use std::alloc::{AllocError, Global};
@@ -15,7 +15,7 @@ pub(crate) const KEY: Credential<'static> = Credential {
     service: "s3",
 };
 
-// The fields of a request, each in a line with a colon behind its name.
+// Returns the fields of a request, each in a line with a colon behind its name.
 fn fields_of(alloc: Global, text: &str) -> Result<Vec<Field<'_>>, AllocError> {
     let mut fields = Vec::new(alloc);
     for line in text.split('\n') {
@@ -56,7 +56,7 @@ fn put_signed(alloc: Global, request: &Request<'_>, moment: &Moment, out: &mut S
     write!(out, "{canonical}\n\n{text}\n\n{value}")
 }
 
-// The rows of requests.
+// Writes the answer of a call at a moment.
 fn answer_at(
     alloc: Global,
     call: &str,
@@ -84,7 +84,7 @@ fn answer_at(
     }
 }
 
-/// Writes what a call answers.
+/// Writes the answer of a call.
 pub(crate) fn answer(alloc: Global, words: &mut Words<'_>, text: &str, out: &mut String) -> Told {
     let call = words.next();
     let seconds = words.number();

@@ -33,7 +33,7 @@ fn note_step<R: Wait + Drop>(
     }
 }
 
-// Takes up to so many entries of a lane: how many.
+// Takes up to `most` entries of a lane, and writes how many it took.
 fn take<R: Wait + Drop>(
     operator: &mut Operator<R>,
     lane: u32,

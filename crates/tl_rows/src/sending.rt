@@ -12,7 +12,8 @@ use tl_sequencer::{Refused, Submitter, Why};
 /// What sends to a lane.
 pub(crate) type Sender = Submitter<Global, Global>;
 
-// The entries that a word gives, so many: each is its bytes, and if it ends with `#` its number behind them.
+// Returns the entries that a word gives, `count` of them: each has its bytes, with its number behind them if the word
+// ends with `#`.
 fn entries_of(alloc: Global, word: &str, count: u64) -> Result<Vec<Vec<u8>>, AllocError> {
     let mut entries = Vec::new(alloc);
     for number in 0..count {
@@ -25,7 +26,7 @@ fn entries_of(alloc: Global, word: &str, count: u64) -> Result<Vec<Vec<u8>>, All
     Ok(entries)
 }
 
-// Sends entries: the number of the last one, or why one was not sent and how many bytes came back.
+// Sends entries, and returns the number of the last one, or why one wasn't sent and how many bytes came back.
 fn sent(submitter: &mut Sender, entries: Vec<Vec<u8>>) -> Result<u64, (Why, usize)>
     ensures { (submitter.new.ring ≡ submitter.old.ring)
         × (submitter.new.lane ≡ submitter.old.lane) }
@@ -40,7 +41,7 @@ fn sent(submitter: &mut Sender, entries: Vec<Vec<u8>>) -> Result<u64, (Why, usiz
     Ok(last)
 }
 
-// Where the submitter of a lane stands.
+// Returns the place of the submitter of a lane.
 fn place_of(submitters: &[Sender], lane: u32) -> Option<usize>
     ensures { IfSome result (λ place. place < length submitters.now) }
 {
@@ -52,7 +53,7 @@ fn place_of(submitters: &[Sender], lane: u32) -> Option<usize>
     None
 }
 
-/// The submitter of a lane, which is taken out.
+/// Removes the submitter of a lane, and returns it.
 pub(crate) fn taken_out(submitters: &mut Vec<Sender>, lane: u32) -> Option<Sender>
     ensures rest { (log : Log GlobalValue) → AreSenders log submitters.old.items
         → AreSenders log submitters.new.items }
@@ -65,8 +66,8 @@ pub(crate) fn taken_out(submitters: &mut Vec<Sender>, lane: u32) -> Option<Sende
     }
 }
 
-/// Sends the entry that a word gives, so many times, to a lane. What is sent is made before, so that nothing was sent
-/// if an allocation fails.
+/// Sends the entry that a word gives to a lane, as often as the words say. The entries are made before, so that
+/// nothing is sent if an allocation fails.
 pub(crate) fn send(
     alloc: Global,
     submitters: &mut Vec<Sender>,

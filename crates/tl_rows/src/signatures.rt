@@ -5,12 +5,12 @@ use hex::FromHex;
 use std::alloc::Global;
 use tl_ed25519::{SecretKey, is_valid_public_key, public_key, sign, verify};
 
-// Writes a truth.
+// Writes whether something is so.
 fn tell(is_so: bool, out: &mut String) -> Told {
     out.push_str(if is_so { "yes" } else { "no" })
 }
 
-// The signature of a message by a seed, where a key object makes the same.
+// Writes the signature of a message by a seed, if a key object makes the same.
 fn signed(seed: &[u8; 32], message: &[u8], out: &mut String) -> Told {
     let signature = sign(seed, message);
     if SecretKey::new(seed).sign(message) != signature {
@@ -19,7 +19,7 @@ fn signed(seed: &[u8; 32], message: &[u8], out: &mut String) -> Told {
     put_hex(out, signature.as_slice())
 }
 
-// The public key of a seed, where a key object has the same.
+// Writes the public key of a seed, if a key object has the same.
 fn public(seed: &[u8; 32], out: &mut String) -> Told {
     let key = public_key(seed);
     if *SecretKey::new(seed).public_key() != key {
@@ -28,12 +28,12 @@ fn public(seed: &[u8; 32], out: &mut String) -> Told {
     put_hex(out, key.as_slice())
 }
 
-// The 64 bytes that a word gives, and zeros of any other word.
+// Returns the 64 bytes that a word gives, or zeros for any other word.
 fn signature_of(word: &str) -> [u8; 64] {
     <[u8; 64] as FromHex>::from_hex(word).unwrap_or([0; 64])
 }
 
-// How many bits of these bytes can be changed with the signature standing, of those in `bits`.
+// Returns how many bits of the key and of the signature can be changed one by one with the signature still valid.
 fn stand_changed(key: &[u8; 32], message: &[u8], signature: &[u8; 64]) -> u64 {
     let mut count = 0u64;
     for bit in 0..256usize {
@@ -53,7 +53,8 @@ fn stand_changed(key: &[u8; 32], message: &[u8], signature: &[u8; 64]) -> u64 {
     count
 }
 
-// The same of one bit of each byte of the message, which is the same again in the end.
+// Returns in how many bytes of the message one bit can be changed with the signature still valid. At the end the
+// message is as it was.
 fn stand_of_others(key: &[u8; 32], message: &mut [u8], signature: &[u8; 64]) -> u64 {
     let mut count = 0u64;
     for place in 0..message.len() {
@@ -66,8 +67,8 @@ fn stand_of_others(key: &[u8; 32], message: &mut [u8], signature: &[u8; 64]) -> 
     count
 }
 
-// How many stand of those with one bit changed: each bit of the key and the signature, and one of each byte of the
-// message.
+// Writes how many changes of one bit leave the signature valid: each bit of the key and the signature, and one of
+// each byte of the message.
 fn changed(key: &[u8; 32], message: &mut [u8], signature: &[u8; 64], out: &mut String) -> Told {
     let count = stand_changed(key, message, signature);
     let count = count.saturating_add(stand_of_others(key, message, signature));
@@ -75,7 +76,7 @@ fn changed(key: &[u8; 32], message: &mut [u8], signature: &[u8; 64], out: &mut S
     write!(out, "{count} of those changed, and {stands} as it is")
 }
 
-/// Writes what a call answers.
+/// Writes the answer of a call.
 pub(crate) fn answer(alloc: Global, words: &mut Words<'_>, out: &mut String) -> Told {
     let call = words.next();
     let key = key_of(words.next());

@@ -1,4 +1,4 @@
-//! The keys of logs: those that a word names, and one that gives no signature.
+//! The keys of logs: those that a word names, and one that gives no signature at first.
 
 use crate::words::{number_of, text_of};
 use std::alloc::{AllocError, Global};
@@ -6,7 +6,7 @@ use std::sync::atomic::{AtomicU64, Ordering};
 use tl_note::{SignFault, Signer};
 use tl_testing::LengthKey;
 
-/// A key that once refuses, or gives no byte, and then signs with one byte.
+/// A key that fails once, or gives no byte, and then signs with one byte.
 #[derive(Drop)]
 pub(crate) struct Reluctant {
     asked: AtomicU64,
@@ -14,7 +14,7 @@ pub(crate) struct Reluctant {
 }
 
 impl Reluctant {
-    /// The key, which was not asked yet.
+    /// Returns the key before its first signature.
     pub(crate) fn new(refuses: bool) -> Reluctant {
         Reluctant {
             asked: AtomicU64::new(0),
@@ -68,8 +68,8 @@ fn add_keys(alloc: Global, keys: &mut Vec<LengthKey>, part: &str) -> Result<(), 
     Ok(())
 }
 
-/// The length keys that a word names, with commas between: `NAME:ID` with the identifier in hexadecimal, or
-/// `NAME*COUNT`, so many of this name with the identifiers from 0 up. Any other part names none.
+/// Returns the length keys that a word names, with commas between: `NAME:ID` with the identifier in hexadecimal, or
+/// `NAME*COUNT`, that many of this name with the identifiers from 0 up. Any other part names none.
 pub(crate) fn keys_of(alloc: Global, word: &str) -> Result<Vec<LengthKey>, AllocError> {
     let mut keys = Vec::new(alloc);
     for part in word.split(',') {

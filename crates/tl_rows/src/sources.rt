@@ -1,4 +1,4 @@
-//! Rows of stored hashes that are read from checked tiles, of a source that may play a trick at one tile.
+//! Rows of stored hashes that are read from checked tiles, of a source that may change one tile.
 
 use crate::proofs::made;
 use crate::stores::{Store, named_store};
@@ -12,8 +12,8 @@ use tl_tile::{
     FetchedTiles, Resource, SourceFault, Tile, TileHashReader, TileSource, needed, parse_path,
 };
 
-// What a source does: it plays a trick at one tile. It lacks the tile, changes the first or the last byte, cuts or adds
-// one, or exchanges the first two hashes.
+// What a source does to one tile: it lacks the tile, changes the first or the last byte, cuts or adds one, or
+// exchanges the first two hashes.
 #[derive(Clone, Copy)]
 struct Trick<'s> {
     name: &'s str,
@@ -37,7 +37,7 @@ fn exchange(bytes: &mut [u8]) {
     }
 }
 
-// Plays a trick on the bytes of a tile.
+// Changes the bytes of a tile as a trick says.
 fn spoil<A: Allocator>(trick: &str, bytes: &mut Vec<u8, A>) -> Result<(), SourceFault> {
     match trick {
         "changes-first" => {
@@ -79,7 +79,7 @@ impl<T: TreeHash> TileSource for TrickSource<'_, T> {
 
 type Reader<'s, T> = TileHashReader<T, TrickSource<'s, T>, Global>;
 
-// A reader of the first entries of a store from a source with a trick.
+// Returns a reader of the first entries of a store, from a source with a trick.
 fn reader_of<'s, T: TreeHash>(
     alloc: Global,
     h: T,
@@ -97,7 +97,7 @@ fn reader_of<'s, T: TreeHash>(
     Ok(TileHashReader::new(alloc, h, size, root, source))
 }
 
-// The trick that two words say: what is done, and the path of the tile.
+// Returns the trick that two words name: what is done, and the path of the tile.
 fn trick_of<'s>(words: &mut Words<'s>) -> Trick<'s> {
     let name = words.next();
     let tile = match parse_path(words.next()) {
@@ -107,7 +107,7 @@ fn trick_of<'s>(words: &mut Words<'s>) -> Trick<'s> {
     Trick { name, tile }
 }
 
-// Whether two reads answered the same.
+// Reports whether two reads had the same answer.
 fn are_same(one: &Result<Vec<Hash>, ReadFault>, other: &Result<Vec<Hash>, ReadFault>) -> bool {
     match (one, other) {
         (Ok(one), Ok(other)) => one.as_slice() == other.as_slice(),
@@ -116,7 +116,7 @@ fn are_same(one: &Result<Vec<Hash>, ReadFault>, other: &Result<Vec<Hash>, ReadFa
     }
 }
 
-// Writes tiles that were fetched with the lengths of their texts.
+// Writes the tiles that were fetched, with the lengths of their texts.
 fn put_fetched(out: &mut String, fetched: &[(Tile, Vec<u8>)]) -> Told {
     for (tile, bytes) in fetched {
         write!(out, "\n{tile:?} {}", bytes.len())?;
@@ -124,8 +124,8 @@ fn put_fetched(out: &mut String, fetched: &[(Tile, Vec<u8>)]) -> Told {
     Ok(())
 }
 
-// The hashes that a read answers, and, of a read that hands them out, how many hashes or which fault, and the tiles
-// with the lengths of their texts.
+// Writes the hashes of a read that also returns its tiles, those tiles with the lengths of their texts, and how many
+// were fetched; and the answer of a read that doesn't return them, if it is another one.
 fn read<T: TreeHash>(
     alloc: Global,
     reader: &Reader<'_, T>,
@@ -147,7 +147,7 @@ fn read<T: TreeHash>(
     Ok(())
 }
 
-// The same from a source with the trick that words say.
+// Writes what `read` does, from a source with the trick that words name.
 fn reads<T: TreeHash>(alloc: Global, h: T, words: &mut Words<'_>, out: &mut String) -> Told {
     let trick = trick_of(words);
     let entries = entries_of(alloc, words.next())?;
@@ -160,7 +160,7 @@ fn reads<T: TreeHash>(alloc: Global, h: T, words: &mut Words<'_>, out: &mut Stri
     }
 }
 
-// The head, a tile, or a proof that is made from the tiles of a source, and how many tiles were fetched for it.
+// Writes the head, a tile, or a proof made from the tiles of a source, and how many tiles were fetched for it.
 fn proves(alloc: Global, call: &str, words: &mut Words<'_>, out: &mut String) -> Told {
     let trick = trick_of(words);
     let store = named_store(alloc, words.next())?;
@@ -195,7 +195,7 @@ fn add_numbers(numbers: &mut Vec<u64>, size: u64) -> Told {
     Ok(())
 }
 
-// The numbers of all hashes at a size, so many times one after another.
+// Returns the numbers of all hashes at a size, this many times one after another.
 fn all_numbers(alloc: Global, size: u64, times: u64) -> Result<Vec<u64>, AllocError> {
     let mut numbers = Vec::new(alloc);
     for _ in 0..times {
@@ -204,13 +204,13 @@ fn all_numbers(alloc: Global, size: u64, times: u64) -> Result<Vec<u64>, AllocEr
     Ok(numbers)
 }
 
-// The source that plays no trick.
+// The source that changes nothing.
 const HONEST: Trick<'static> = Trick {
     name: "nothing",
     tile: None,
 };
 
-// Whether these hashes of the first entries are read as they are stored.
+// Reports whether these hashes of the first entries are read as they are stored.
 fn are_read(alloc: Global, store: &Store, size: u64, numbers: &[u64]) -> Result<bool, ReadFault> {
     let fetches = Cell::new(0);
     let reader = reader_of(alloc, Sha256Tree, store, size, HONEST, &fetches)?;
@@ -218,7 +218,7 @@ fn are_read(alloc: Global, store: &Store, size: u64, numbers: &[u64]) -> Result<
     Ok(hashes.as_slice() == store.read(alloc, numbers)?.as_slice())
 }
 
-// Whether a changed bit of a tile is told where these hashes are read.
+// Reports whether a changed bit of a tile is found when these hashes are read.
 fn is_told(
     alloc: Global,
     store: &Store,
@@ -241,7 +241,7 @@ fn is_told(
     }
 }
 
-// The number of the first hash of a tile of the three lowest levels.
+// Returns the number of the first hash of a tile of the three lowest levels.
 fn first_number(tile: Tile) -> u64 {
     if tile.index >= 1000 || tile.level > 2 {
         return 0;
@@ -249,8 +249,8 @@ fn first_number(tile: Tile) -> u64 {
     stored_index(tile.level * 8, tile.index * 256)
 }
 
-// How many of the tiles of a log of this size are told where one of their bits is changed: all hashes are read, or the
-// first of the tile alone.
+// Returns for how many tiles of a log of this size a changed bit is found, and how many tiles there are. Either all
+// hashes are read, or only the tile's first.
 fn told(alloc: Global, store: &Store, size: u64, is_first: bool) -> Result<(u64, u64), AllocError> {
     let numbers = all_numbers(alloc, size, 1)?;
     let mut count = (0u64, 0u64);
@@ -274,8 +274,8 @@ fn told(alloc: Global, store: &Store, size: u64, is_first: bool) -> Result<(u64,
     Ok(count)
 }
 
-// How many hashes of the first entries of those that a word names are read, so many times where that is said, and
-// whether as they are stored.
+// Writes how many hashes of the first entries that a word names are read, as often as the words say, and whether they
+// are read as they are stored.
 fn honest(alloc: Global, words: &mut Words<'_>, out: &mut String) -> Told {
     let store = named_store(alloc, words.next())?;
     let size = words.number();
@@ -286,14 +286,14 @@ fn honest(alloc: Global, words: &mut Words<'_>, out: &mut String) -> Told {
     }
 }
 
-// How many lies about tiles are told.
+// Writes how many changed tiles are found.
 fn lies(alloc: Global, is_first: bool, words: &mut Words<'_>, out: &mut String) -> Told {
     let store = named_store(alloc, words.next())?;
     let (count, all) = told(alloc, &store, words.number(), is_first)?;
     write!(out, "{count} of {all} tiles")
 }
 
-// The reads under a digest.
+// Writes the answer of a read under a digest.
 fn read_by(alloc: Global, words: &mut Words<'_>, out: &mut String) -> Told {
     match words.next() {
         "sha" => reads(alloc, Sha256Tree, words, out),
@@ -301,7 +301,7 @@ fn read_by(alloc: Global, words: &mut Words<'_>, out: &mut String) -> Told {
     }
 }
 
-/// Writes what a call answers.
+/// Writes the answer of a call.
 pub(crate) fn answer(alloc: Global, words: &mut Words<'_>, out: &mut String) -> Told {
     match words.next() {
         "read" => read_by(alloc, words, out),

@@ -12,13 +12,13 @@ use tl_testing::vectors::numbered;
 /// A store over hashes by SHA-256.
 pub(crate) type Store = HashStore<Sha256Tree, Global>;
 
-/// The store of the entries that a word names.
+/// Returns the store of the entries that a word names.
 pub(crate) fn named_store(alloc: Global, word: &str) -> Result<Store, AllocError> {
     let entries = entries_of(alloc, word)?;
     store_of(alloc, Sha256Tree, entries.as_slice())
 }
 
-// The number of the hash of a subtree.
+// Writes the number of the hash of a subtree.
 fn index(level: u64, place: u64, out: &mut String) -> Told {
     let level = (level % 63) as u32;
     if place >= (1u64 << 62) >> level {
@@ -27,7 +27,7 @@ fn index(level: u64, place: u64, out: &mut String) -> Told {
     write!(out, "{}", stored_index(level, place))
 }
 
-// The level and the place of the subtree whose hash has a number.
+// Writes the level and the place of the subtree whose hash has a number.
 fn split(index: u64, out: &mut String) -> Told {
     if index >= (1 << 63) - 1 {
         return unknown(out);
@@ -36,7 +36,7 @@ fn split(index: u64, out: &mut String) -> Told {
     write!(out, "{level} {place}")
 }
 
-// How many hashes a store of so many entries has.
+// Writes how many hashes a store of this many entries has.
 fn count(size: u64, out: &mut String) -> Told {
     if size > 1 << 62 {
         return unknown(out);
@@ -44,7 +44,7 @@ fn count(size: u64, out: &mut String) -> Told {
     write!(out, "{}", stored_count(size))
 }
 
-// Adds so many of the numbers from 0 up to a store.
+// Adds this many of the numbers from 0 up to a store.
 fn add(alloc: Global, store: &mut Store, count: u64) -> Told {
     let entries = numbered(alloc, (count % 100_000) as u32)?;
     if store.size() < 100_000 && entries.len() < 100_000 {
@@ -53,7 +53,7 @@ fn add(alloc: Global, store: &mut Store, count: u64) -> Told {
     Ok(())
 }
 
-// The roots of a store after each of some batches, each of so many of the numbers from 0 up.
+// Writes the roots of a store after each of some batches of numbers from 0 up.
 fn batches(alloc: Global, counts: &str, out: &mut String) -> Told {
     let mut store = HashStore::new(alloc, Sha256Tree);
     out.push_str("roots")?;
@@ -65,7 +65,7 @@ fn batches(alloc: Global, counts: &str, out: &mut String) -> Told {
     Ok(())
 }
 
-// The hashes with some numbers, of a store.
+// Writes the hashes of a store with some numbers.
 fn hashes(alloc: Global, words: &mut Words<'_>, out: &mut String) -> Told {
     let store = named_store(alloc, words.next())?;
     let numbers = words.numbers(alloc)?;
@@ -73,13 +73,13 @@ fn hashes(alloc: Global, words: &mut Words<'_>, out: &mut String) -> Told {
     put(out, answer)
 }
 
-// The root of the first entries of a store.
+// Writes the root of the first entries of a store.
 fn head(alloc: Global, words: &mut Words<'_>, out: &mut String) -> Told {
     let store = named_store(alloc, words.next())?;
     put(out, tree_hash(alloc, Sha256Tree, words.number(), &store))
 }
 
-/// Writes what a call answers.
+/// Writes the answer of a call.
 pub(crate) fn answer(alloc: Global, words: &mut Words<'_>, out: &mut String) -> Told {
     match words.next() {
         "index" => {

@@ -8,7 +8,7 @@ use tl_tile::{
     Resource, Tile, added_resources, needed, parse_path, path_of, read_bundle, write_bundle,
 };
 
-// The resource of a path, and its path written back.
+// Writes the resource of a path, and its path again.
 fn parsed(alloc: Global, path: &str, out: &mut String) -> Told {
     match parse_path(path) {
         Some(resource) => {
@@ -19,7 +19,7 @@ fn parsed(alloc: Global, path: &str, out: &mut String) -> Told {
     }
 }
 
-// The resources that a log of this size needs, beside those of an older size.
+// Returns the resources that a log of this size needs besides those of an older size.
 fn listed(alloc: Global, old: u64, size: u64) -> Result<Vec<Resource>, AllocError> {
     if size > u32::MAX as u64 || old > size {
         return Ok(Vec::new(alloc));
@@ -30,7 +30,7 @@ fn listed(alloc: Global, old: u64, size: u64) -> Result<Vec<Resource>, AllocErro
     added_resources(alloc, old, size)
 }
 
-// How many resources there are, and some of them.
+// Writes how many resources there are, and some of them.
 fn resources(alloc: Global, words: &mut Words<'_>, out: &mut String) -> Told {
     let old = words.number();
     let resources = listed(alloc, old, words.number())?;
@@ -43,7 +43,7 @@ fn resources(alloc: Global, words: &mut Words<'_>, out: &mut String) -> Told {
     Ok(())
 }
 
-// The bytes of a tile of the log of the entries that a word names.
+// Writes the bytes of a tile of the log of the entries that a word names.
 fn bytes(alloc: Global, words: &mut Words<'_>, out: &mut String) -> Told {
     let store = named_store(alloc, words.next())?;
     let tile = Tile {
@@ -54,7 +54,7 @@ fn bytes(alloc: Global, words: &mut Words<'_>, out: &mut String) -> Told {
     put(out, stored_bytes(alloc, tile, &store))
 }
 
-// The bundle of the entries that a word names.
+// Writes the bundle of the entries that a word names.
 fn written(alloc: Global, word: &str, out: &mut String) -> Told {
     let entries = entries_of(alloc, word)?;
     if entries.is_empty() || entries.len() > 256 {
@@ -63,7 +63,7 @@ fn written(alloc: Global, word: &str, out: &mut String) -> Told {
     put(out, write_bundle(alloc, entries.as_slice()))
 }
 
-/// How many entries there are, and each.
+/// Writes how many entries there are, and each.
 impl Shown for Vec<Vec<u8>> {
     fn show(&self, out: &mut String) -> Told {
         write!(out, "{}", self.len())?;
@@ -75,7 +75,7 @@ impl Shown for Vec<Vec<u8>> {
     }
 }
 
-// The entries of a bundle.
+// Writes the entries of a bundle.
 fn read(alloc: Global, width: u64, digits: &str, out: &mut String) -> Told {
     if width == 0 || width > 256 {
         return unknown(out);
@@ -84,7 +84,7 @@ fn read(alloc: Global, width: u64, digits: &str, out: &mut String) -> Told {
     put(out, read_bundle(alloc, bytes.as_slice(), width as u32))
 }
 
-/// Writes what a call answers.
+/// Writes the answer of a call.
 pub(crate) fn answer(alloc: Global, words: &mut Words<'_>, text: &str, out: &mut String) -> Told {
     match words.next() {
         "path" => parsed(alloc, text, out),

@@ -5,7 +5,7 @@ use std::alloc::Global;
 use tl_hash::{Sha256Tree, TreeHash, empty_hash, entry_root, leaf_hash, node_hash, split_point};
 use tl_testing::SumDigest;
 
-// The root of the entries that a word names, or of none.
+// Writes the root of the entries that a word names, or of none.
 fn tree<T: TreeHash>(alloc: Global, h: T, words: &mut Words<'_>, out: &mut String) -> Told {
     if words.next() == "empty" {
         return put_hash(out, empty_hash(h));
@@ -14,7 +14,7 @@ fn tree<T: TreeHash>(alloc: Global, h: T, words: &mut Words<'_>, out: &mut Strin
     put_hash(out, entry_root(h, entries.as_slice()))
 }
 
-// Where a tree of so many entries is split.
+// Writes the place at which a tree of this many entries is split.
 fn split(size: u64, out: &mut String) -> Told {
     if size < 2 {
         return unknown(out);
@@ -22,7 +22,7 @@ fn split(size: u64, out: &mut String) -> Told {
     write!(out, "{}", split_point(size))
 }
 
-/// Writes what a call answers.
+/// Writes the answer of a call.
 pub(crate) fn answer(alloc: Global, words: &mut Words<'_>, out: &mut String) -> Told {
     let before = *words;
     match words.next() {

@@ -1,6 +1,6 @@
 //! Rows of a witness that is asked to cosign. The words are `length` or `counting` for the keys that cosign, and the
-//! origins, each `ORIGIN;LOG;COSIGNER` with the length key of the log and the key that cosigns, as `NAME:ID`. The input
-//! has the lines of the links that were saved.
+//! origins, each `ORIGIN;LOG;COSIGNER` with the length key of the log and the key that cosigns, as `NAME:ID`. The
+//! input has the lines of the links that were saved.
 //!
 //! | A step | |
 //! |---|---|
@@ -26,14 +26,14 @@ use tl_witness::{Book, Reply, SharedWitness, Trust, read_chain};
 // The time of each request, in seconds since the Unix epoch.
 const TIME: u64 = 1_700_000_000;
 
-// A witness, and what waits for its locks.
+// A witness, and the system that waits for its locks.
 #[derive(Drop)]
 struct Shared<'r, R> {
     rt: &'r R,
     witness: SharedWitness<Sha256Tree, Global>,
 }
 
-// Reports how many links there are, and each on a line.
+// Writes how many links there are, and each on a line.
 fn tell_all(links: Option<&[Link<Global>]>, step: &mut Step<'_>) -> Told {
     let Some(links) = links else {
         return step.say("None");
@@ -52,12 +52,12 @@ fn tell_all(links: Option<&[Link<Global>]>, step: &mut Step<'_>) -> Told {
 }
 
 impl<R: Wait> Shared<'_, R> {
-    // The reply to a request.
+    // Returns the reply to a request.
     fn reply(&self, body: &str, saver: &mut KeepingSaver) -> Result<Reply<Global>, AllocError> {
         self.witness.try_add(self.rt, body.as_bytes(), TIME, saver)
     }
 
-    // Reports links of an origin: all of them, or so many from a place on.
+    // Writes links of an origin: all of them, or a number of them from an index on.
     fn tell_links(&self, origin: &str, part: Option<(u64, u64)>, step: &mut Step<'_>) -> Told {
         let found = match part {
             Some((from, most)) => self.witness.links(self.rt, origin, from, most)?,
@@ -69,7 +69,7 @@ impl<R: Wait> Shared<'_, R> {
         }
     }
 
-    // Reports the size and the root that an origin has reached.
+    // Writes the size and the root that an origin has reached.
     fn tell_head(&self, origin: &str, step: &mut Step<'_>) -> Told {
         let Some((size, root)) = self.witness.head(self.rt, origin) else {
             return step.say("None");
@@ -80,7 +80,7 @@ impl<R: Wait> Shared<'_, R> {
     }
 }
 
-// Reports the links of each origin that words name, as a book has them.
+// Writes the links of each origin that words name, as a book has them.
 fn tell_book(book: &Book<Sha256Tree, Global>, words: &str, out: &mut String) -> Told {
     out.push_str("book:\n")?;
     for word in words.split(' ') {
@@ -94,7 +94,7 @@ fn tell_book(book: &Book<Sha256Tree, Global>, words: &str, out: &mut String) -> 
     Ok(())
 }
 
-// Puts a request: the status and the body of the reply.
+// Posts a request, and writes the status and the body of the reply.
 fn add<R: Wait>(
     asked: &Shared<'_, R>,
     saver: &mut KeepingSaver,
@@ -164,13 +164,13 @@ struct Party<'a> {
     cosigner: (&'a str, u32),
 }
 
-// The name and the identifier of a key.
+// Returns the name and the identifier of a key.
 fn named(word: &str) -> (&str, u32) {
     let (name, id) = word.split_once(':').unwrap_or((word, ""));
     (name, u32::from_str_radix(id, 16).unwrap_or(0))
 }
 
-// What words say of origins, each a party.
+// Returns the origins that words name, each with its keys.
 fn parties_of<'a>(alloc: Global, words: &'a str) -> Result<Vec<Party<'a>>, AllocError> {
     let mut parties = Vec::new(alloc);
     for word in words.split(' ') {

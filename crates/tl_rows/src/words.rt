@@ -26,24 +26,24 @@ pub(crate) struct Words<'a> {
 }
 
 impl<'a> Words<'a> {
-    /// The next word, which is empty where none is left.
+    /// Returns the next word, which is empty if none is left.
     pub(crate) fn next(&mut self) -> &'a str {
         let (word, left) = self.left.split_once(' ').unwrap_or((self.left, ""));
         self.left = left;
         word
     }
 
-    /// The number that the next word is, and 0 of any other word.
+    /// Returns the number that the next word is, or 0 for any other word.
     pub(crate) fn number(&mut self) -> u64 {
         number_of(self.next())
     }
 
-    /// The hash that the next word is.
+    /// Returns the hash that the next word is.
     pub(crate) fn hash(&mut self) -> Hash {
         parse_hash(self.next())
     }
 
-    /// The hashes that the words are which are left.
+    /// Returns the hashes that the words left are.
     pub(crate) fn hashes(&self, alloc: Global) -> Result<Vec<Hash>, AllocError> {
         let mut hashes = Vec::new(alloc);
         for word in self.left.split(' ') {
@@ -54,7 +54,7 @@ impl<'a> Words<'a> {
         Ok(hashes)
     }
 
-    /// The numbers that the words are which are left.
+    /// Returns the numbers that the words left are.
     pub(crate) fn numbers(&self, alloc: Global) -> Result<Vec<u64>, AllocError> {
         let mut numbers = Vec::new(alloc);
         for word in self.left.split(' ') {
@@ -66,22 +66,22 @@ impl<'a> Words<'a> {
     }
 }
 
-/// The number that a word is, and 0 of any other word.
+/// Returns the number that a word is, or 0 for any other word.
 pub(crate) fn number_of(word: &str) -> u64 {
     word.parse::<u64>().unwrap_or(0)
 }
 
-/// The same below 2^32.
+/// Returns the number below 2^32 that a word is, or 0 for any other word.
 pub(crate) fn small_of(word: &str) -> u32 {
     word.parse::<u32>().unwrap_or(0)
 }
 
-/// The words between single spaces.
+/// Returns the words between single spaces.
 pub(crate) fn words_of<'a>(alloc: Global, line: &'a str) -> Result<Vec<&'a str>, AllocError> {
     line.split(' ').collect::<Vec<&str>>(alloc)
 }
 
-// Adds what a part of a word gives in hexadecimal, so many times if it says so.
+// Appends the bytes that a part of a word gives in hexadecimal, as often as it says.
 fn add_part(alloc: Global, bytes: &mut Vec<u8>, part: &str) -> Told {
     let (digits, count) = part.split_once('*').unwrap_or((part, "1"));
     let piece = match hex::decode(alloc, digits) {
@@ -95,8 +95,8 @@ fn add_part(alloc: Global, bytes: &mut Vec<u8>, part: &str) -> Told {
     Ok(())
 }
 
-/// The bytes that a word gives: parts in hexadecimal with `+` between, and `*COUNT` behind one that is there so many
-/// times. A part that isn't hexadecimal gives none.
+/// Returns the bytes that a word gives: parts in hexadecimal with `+` between, and `*COUNT` behind a part that is
+/// repeated. A part that isn't hexadecimal gives none.
 pub(crate) fn bytes_of(alloc: Global, word: &str) -> Result<Vec<u8>, AllocError> {
     let mut bytes = Vec::new(alloc);
     for part in word.split('+') {
@@ -105,7 +105,7 @@ pub(crate) fn bytes_of(alloc: Global, word: &str) -> Result<Vec<u8>, AllocError>
     Ok(bytes)
 }
 
-/// A text in which `|` stands for a newline and `_` for a space.
+/// Returns a text in which `|` stands for a newline and `_` for a space.
 pub(crate) fn text_of(alloc: Global, word: &str) -> Result<String, AllocError> {
     let mut text = String::new(alloc);
     for letter in word.chars() {
@@ -118,12 +118,12 @@ pub(crate) fn text_of(alloc: Global, word: &str) -> Result<String, AllocError> {
     Ok(text)
 }
 
-/// The 32 bytes that a word gives in hexadecimal, and zeros of any other word.
+/// Returns the 32 bytes that a word gives in hexadecimal, or zeros for any other word.
 pub(crate) fn key_of(word: &str) -> [u8; 32] {
     <[u8; 32] as FromHex>::from_hex(word).unwrap_or([0; 32])
 }
 
-// The same as a hash. A word of two digits is the hash with this first byte, and 31 zeros behind it.
+// Returns these bytes as a hash. A word of two digits is the hash with this first byte, and 31 zeros behind it.
 fn parse_hash(word: &str) -> Hash {
     let mut bytes = key_of(word);
     if word.len() == 2 {
@@ -133,7 +133,7 @@ fn parse_hash(word: &str) -> Hash {
     Hash::from_bytes(bytes)
 }
 
-// So many entries of so many bytes 7.
+// Returns this many entries, each of this many bytes 7.
 fn equal_entries(alloc: Global, count: u64, length: u64) -> Result<Vec<Vec<u8>>, AllocError> {
     let mut list = Vec::new(alloc);
     for _ in 0..count {
@@ -142,7 +142,7 @@ fn equal_entries(alloc: Global, count: u64, length: u64) -> Result<Vec<Vec<u8>>,
     Ok(list)
 }
 
-// The entries that a text gives in hexadecimal, with commas between.
+// Returns the entries that a text gives in hexadecimal, with commas between.
 fn listed_entries(alloc: Global, text: &str) -> Result<Vec<Vec<u8>>, AllocError> {
     let mut list = Vec::new(alloc);
     for word in text.split(',') {
@@ -151,8 +151,8 @@ fn listed_entries(alloc: Global, text: &str) -> Result<Vec<Vec<u8>>, AllocError>
     Ok(list)
 }
 
-/// The entries that a word names: `worked:N`, the first of the eight outside vectors; `numbered:N`, the numbers from 0
-/// up in four bytes; `equal:N:LENGTH`; or each in hexadecimal, with commas between.
+/// Returns the entries that a word names: `worked:N`, the first of the eight outside vectors; `numbered:N`, the
+/// numbers from 0 up in four bytes; `equal:N:LENGTH`; or each in hexadecimal, with commas between.
 pub(crate) fn entries_of(alloc: Global, word: &str) -> Result<Vec<Vec<u8>>, AllocError> {
     match word.split_once(':') {
         Some(("worked", count)) => entries(alloc, number_of(count) as usize),
@@ -184,12 +184,12 @@ pub(crate) fn put_bytes(out: &mut String, bytes: &[u8]) -> Told {
     put_hex(out, bytes.get(..256).unwrap_or(bytes))
 }
 
-/// Writes what is answered where a call has no such row.
+/// Writes the answer for a call that has no such row.
 pub(crate) fn unknown(out: &mut String) -> Told {
     out.push_str("no such call")
 }
 
-/// A step of a row, and the text that what comes of it is written to.
+/// A step of a row, and the text that its answer is written to.
 #[derive(Drop)]
 pub(crate) struct Step<'s> {
     pub(crate) line: &'s str,
@@ -197,7 +197,7 @@ pub(crate) struct Step<'s> {
 }
 
 impl Step<'_> {
-    /// Writes the step and what came of it.
+    /// Writes the step and its answer.
     pub(crate) fn tell<T: Debug + Drop>(&mut self, answer: T) -> Told {
         write!(self.out, "{}: {answer:?}\n", self.line)
     }
@@ -217,7 +217,7 @@ impl Step<'_> {
         self.out.push('\n')
     }
 
-    /// Writes that an allocation failed. It fails in a row with a key that counts, which is tried again as a whole.
+    /// Writes that an allocation failed. In a row with a key that counts it fails, and the whole row is tried again.
     pub(crate) fn say_refused(&mut self) -> Told {
         if self.out.contains("counting") {
             return Err(AllocError);
@@ -226,13 +226,13 @@ impl Step<'_> {
     }
 }
 
-/// What is written of an answer that has no fault.
+/// How an answer without a fault is written.
 pub(crate) trait Shown {
-    /// Writes it.
+    /// Writes the answer.
     fn show(&self, out: &mut String) -> Told;
 }
 
-/// Writes what a call answered, or its fault.
+/// Writes the answer of a call, or its fault.
 pub(crate) fn put<T: Shown + Drop, E: Debug + Drop>(
     out: &mut String,
     answer: Result<T, E>,
@@ -255,7 +255,7 @@ impl Shown for Vec<u8> {
     }
 }
 
-/// How many hashes there are, and each.
+/// Writes how many hashes there are, and each.
 impl Shown for Vec<Hash> {
     fn show(&self, out: &mut String) -> Told {
         write!(out, "{}", self.len())?;
@@ -267,7 +267,7 @@ impl Shown for Vec<Hash> {
     }
 }
 
-/// As one of several.
+/// Writes the hash as one of several.
 impl Shown for Hash {
     fn show(&self, out: &mut String) -> Told {
         out.push_str("1 ")?;

@@ -10,18 +10,18 @@ use Rattle.tl_run.specs.declared.place.Place.TheVariants.{File, State, Log, Sour
 use Rattle.tl_run.specs.declared.fault.RunFault.{RunFault}
 use Rattle.tl_run.specs.declared.fault.RunFault.TheVariants.{Refused, Read, Write, TooLarge, EntryTooLong, BadOrigin, BadIndex, BadOld, BadPath, NotThere, Malformed, Chain, Sign, Operator, Listen, Accept, OutOfMemory, BadName, BadKey, BadCheckpoint, WrongSignature, Unverified, Device, BadKeyFile, NothingThere}
 
--- a place, where no options tell more of it
+-- the words for a place, when no options say more of it
 abbrev pub place_words : Place → Bytes
 place_words File = codes "file"
 place_words State = codes "state"
 place_words (Log resource) = codes "log"
 place_words (Source resource) = codes "source"
 
--- that nothing is there that could be gone on from
+-- the words for a place with nothing to go on from
 abbrev pub nothing_words : Place → Bytes
 nothing_words place = codes "no " ++ place_words place ++ codes " there (use --new to begin one)"
 
--- what it says
+-- the words for a fault
 abbrev pub fault_words : RunFault → Bytes
 fault_words Refused = codes "refused"
 fault_words Read = codes "read failed"
@@ -49,7 +49,7 @@ fault_words (Device place fault) = place_words place ++ codes ": " ++ device_wor
 fault_words BadKeyFile = codes "file: bad key"
 fault_words (NothingThere place) = place_words place ++ codes ": " ++ nothing_words place
 
--- what a fault of a device is told as
+-- the fault of a command for a fault of a device
 abbrev pub after_device : Place → DeviceFault → RunFault
 after_device place device.OutOfMemory = OutOfMemory
 after_device place fault = Device place fault
@@ -59,7 +59,8 @@ abbrev pub fault_text : RunFault → Option Bytes
 fault_text Refused = None
 fault_text fault = Some (codes "tlog: " ++ fault_words fault)
 
--- the exit status of a fault of a device: 1 where it is in use, or has what isn't taken, or memory was refused
+-- the exit status for a fault of a device: 1 if the device is in use, holds what isn't accepted, or memory ran out,
+-- else 3
 abbrev pub device_status : DeviceFault → ℕ
 device_status device.Taken = 1
 device_status device.Busy = 1
@@ -69,7 +70,7 @@ device_status device.Older = 1
 device_status device.OutOfMemory = 1
 device_status _ = 3
 
--- the exit status: 3 where a device failed or a source gave nothing, else 1
+-- the exit status: 3 if a device failed or a source gave nothing, else 1
 abbrev pub exit_status : RunFault → ℕ
 exit_status Read = 3
 exit_status Write = 3

@@ -8,7 +8,7 @@ use Rattle.tl_key.specs.NoteKey.{SeedKey, key_id}
 use Rattle.tl_ed25519.specs.Eddsa.{public_key, sign}
 use Rattle.tl_log.specs.Checkpoints.{text_of_log}
 
--- a log's key: its name, which is the log's, and its one signature of a message
+-- a log's key: it has the log's name, and one signature of each message
 pub record LogKey : Type 0 where
   pub name : Bytes
   pub signature : Bytes → Signature

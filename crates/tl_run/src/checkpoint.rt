@@ -16,8 +16,8 @@ use std::alloc::{Allocator, Global};
 use tl_checkpoint::{Checkpoint, CheckpointFault, write};
 use tl_hash::Hash;
 
-/// The text of the checkpoint (C2SP tlog-checkpoint, "Note text") of a log of `size` entries, below 2^63, with this
-/// root; its origin is one line. The text can be signed (signed-note). It fails for want of memory alone.
+/// Returns the text of the checkpoint (C2SP tlog-checkpoint, "Note text") of a log of `size` entries, below 2^63,
+/// with this root. The origin is one line. The text can be signed (signed-note). It fails only if allocation fails.
 pub fn checkpoint_of<A: Allocator + Copy>(
     alloc: A,
     origin: &str,
@@ -44,9 +44,8 @@ pub fn checkpoint_of<A: Allocator + Copy>(
     }
 }
 
-/// The note of the checkpoint of a log of `size` entries, below 2^63, with this root (C2SP tlog-checkpoint,
-/// signed-note), signed by the log's key. `global` is what the key takes its memory from. It fails for want of memory
-/// alone.
+/// Returns the note of the checkpoint of a log of `size` entries, below 2^63, with this root, signed by the log's key
+/// (C2SP tlog-checkpoint, signed-note). The key takes its memory from `global`. It fails only if allocation fails.
 pub fn sign_checkpoint<K: LogSigner, A: Allocator + Copy>(
     alloc: A,
     global: Global,

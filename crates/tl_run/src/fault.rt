@@ -1,4 +1,4 @@
-//! The faults of the commands, their lines on standard error and their exit statuses.
+//! The faults of the commands, their lines on standard error, and their exit statuses.
 
 ghost use Rattle.std.specs.Prelude.{◌≡◌, IfOk, Some, option_map, string_bytes};
 ghost use Rattle.tl_run.specs.Faults.{after_device, device_status, exit_status, fault_text};
@@ -9,10 +9,10 @@ use std::error::Error;
 use std::fmt::{self, Display, Formatter};
 use tl_device::DeviceFault;
 
-/// Why a command ends without success, in the order of the numbers that documents and scripts may use.
+/// Why a command ends without success. The order is that of the numbers which documents and scripts may use.
 #[derive(Clone, Copy, Debug, PartialEq, Eq)]
 pub enum RunFault {
-    /// The answer is no; it is on standard output.
+    /// The answer is no; it was printed on standard output.
     Refused,
     /// A read failed.
     Read,
@@ -20,9 +20,9 @@ pub enum RunFault {
     Write,
     /// The input has more bytes than a command reads.
     TooLarge,
-    /// The entry at this place has more than 65,535 bytes.
+    /// The entry at this index has more than 65,535 bytes.
     EntryTooLong(u64),
-    /// The origin can't name a log.
+    /// The origin can't be the name of a log.
     BadOrigin,
     /// There is no entry at the index.
     BadIndex,
@@ -30,11 +30,11 @@ pub enum RunFault {
     BadOld,
     /// No resource has the path.
     BadPath,
-    /// The log hasn't got the resource.
+    /// The log doesn't have the resource.
     NotThere,
-    /// The input isn't a text of the command's.
+    /// The input isn't a text that the command reads.
     Malformed,
-    /// The line, chain or link at this place can't be taken.
+    /// The line, chain or link with this index isn't accepted.
     Chain(u64),
     /// The signer gave no signature.
     Sign,
@@ -44,28 +44,28 @@ pub enum RunFault {
     Listen,
     /// A connection couldn't be accepted.
     Accept,
-    /// A growth was refused.
+    /// Memory ran out.
     OutOfMemory,
-    /// The name can't be a key's.
+    /// The name can't be that of a key.
     BadName,
-    /// The text of an option is no key's.
+    /// The text of an option isn't that of a key.
     BadKey,
-    /// What is there is no signed checkpoint.
+    /// The bytes at this place are no signed checkpoint.
     BadCheckpoint(Place),
-    /// The signature line at this place, counted from 0, is wrong.
+    /// The signature line with this index, counted from 0, is wrong.
     WrongSignature(u64),
-    /// The note is signed by other keys: no signature line is of one that was given.
+    /// The note is signed by other keys only: no signature line is of a given key.
     Unverified,
     /// A file, a folder or a host that the options name failed.
     Device(Place, DeviceFault),
-    /// The file of a key has none of the type asked for.
+    /// The key file has no key of the type asked for.
     BadKeyFile,
-    /// Nothing is there that could be gone on from.
+    /// There is nothing at this place to go on from.
     NothingThere(Place),
 }
 
 impl RunFault {
-    /// That a device failed over this: `Device`, and `OutOfMemory` where memory was refused.
+    /// Returns the fault of a device at this place: `OutOfMemory` if memory ran out, else `Device`.
     pub fn of_device(place: Place, fault: DeviceFault) -> RunFault
         ensures { result ≡ after_device place fault }
     {
@@ -137,7 +137,8 @@ impl<X: Drop> From<AllocFailed<X>> for RunFault {
     }
 }
 
-/// The line of a fault on standard error, without its newline, if it has one. It fails for want of memory alone.
+/// Returns the line of a fault on standard error, without its newline, or None for `Refused`, whose answer is on
+/// standard output. It fails only if allocation fails.
 pub fn fault_line<A: Allocator>(alloc: A, fault: &RunFault) -> Result<Option<String<A>>, AllocError>
     ensures { IfOk result (λ line. option_map string_bytes line ≡ fault_text fault.now) }
 {
@@ -147,7 +148,8 @@ pub fn fault_line<A: Allocator>(alloc: A, fault: &RunFault) -> Result<Option<Str
     }
 }
 
-// The exit status of a fault of a device: 1 where it is in use, or has what isn't taken, or memory was refused.
+// Returns the exit status of a fault of a device: 1 if the device is in use, holds what isn't accepted, or memory ran
+// out, else 3.
 fn exit_of_device(fault: &DeviceFault) -> u8
     ensures { result ≡ device_status fault.now }
 {
@@ -162,7 +164,7 @@ fn exit_of_device(fault: &DeviceFault) -> u8
     }
 }
 
-/// The exit status of a fault: 3 where a device failed or a source gave nothing, else 1. It takes no memory.
+/// Returns the exit status of a fault: 3 if a device failed or a source gave nothing, else 1. It allocates nothing.
 pub fn exit_of(fault: &RunFault) -> u8
     ensures { result ≡ exit_status fault.now }
 {

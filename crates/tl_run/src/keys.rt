@@ -1,4 +1,4 @@
-//! Keys that a command is told.
+//! Keys that the options of a command name.
 
 ghost use Rattle.tl_key.specs.Reading.{ReadsSigner, ReadsVerifier};
 ghost use Rattle.tl_run.specs.Keys.{IsTextOf, ReadsFile, ReadsKey, ReadsPrivate};
@@ -12,7 +12,7 @@ use std::str;
 use tl_device::read_plain;
 use tl_key::{KeyFault, KeyKind, NoteVerifier, SignerKey, read_signer_key, read_verifier_key};
 
-/// By which key a log is signed.
+/// The key that signs a log.
 #[derive(Drop)]
 pub enum LogKey {
     /// The demonstration key of the log's name and this secret.
@@ -21,7 +21,8 @@ pub enum LogKey {
     File(String),
 }
 
-/// The verifier's key of a log that a text is of (C2SP signed-note, "Verifier keys"). `BadKey`: the text is of none.
+/// Returns the verifier key of a log whose text this is (C2SP signed-note, "Verifier keys"). It fails with `BadKey`
+/// if the text is none, and with `OutOfMemory` if allocation fails.
 pub fn read_log_key(alloc: Global, text: &str) -> Result<NoteVerifier<Global>, RunFault>
     ensures { ReadsKey text.now result }
 {
@@ -32,7 +33,7 @@ pub fn read_log_key(alloc: Global, text: &str) -> Result<NoteVerifier<Global>, R
     }
 }
 
-// The text without the newline that ends it, if one does.
+// Returns the text without a newline at its end.
 fn without_newline(text: &str) -> &str
     ensures { IsTextOf text.now result.now }
 {
@@ -42,8 +43,9 @@ fn without_newline(text: &str) -> &str
     }
 }
 
-/// The private key whose text the bytes of a file are, with a newline after it or without (`tl_key::read_signer_key`).
-/// `BadKeyFile`: they are of no key of the type asked for.
+/// Returns the private key whose text the bytes are, with or without a newline at its end
+/// (`tl_key::read_signer_key`). It fails with `BadKeyFile` if the bytes are no text of a key of the type asked for,
+/// and with `OutOfMemory` if allocation fails.
 pub fn read_private_key<K: KeyKind>(
     alloc: Global,
     bytes: &[u8],
@@ -60,8 +62,8 @@ pub fn read_private_key<K: KeyKind>(
     }
 }
 
-/// The bytes of the plain file at this path, at most as many as an input may have. Where they aren't read, the fault
-/// says why, `NotPlain` of what is no plain file, as a FIFO, whose opening waits for a writer.
+/// Returns the bytes of the plain file at this path, at most as many as an input may have. If it can't read them, it
+/// returns why: `NotPlain` for what is no plain file, such as a FIFO, whose opening would wait for a writer.
 pub fn read_file<H: Files>(files: &H, alloc: Global, path: &str) -> Result<Vec<u8>, RunFault>
     ensures { ReadsFile result }
 {

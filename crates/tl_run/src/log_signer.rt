@@ -7,21 +7,21 @@ use std::marker::Model;
 use tl_key::{DemoKey, Note, SignerKey, demo_key};
 use tl_note::{Signer, write_signature_line};
 
-/// The key of a log: its name is the log's, and it has one signature of each message.
+/// The key of a log: it has the log's name, and one signature of each message.
 pub trait LogSigner {
     ghost use Rattle.std.specs.Prelude.{◌≡◌, IfOk, string_bytes};
     ghost use Rattle.tl_note.specs.Note.{signature_line};
     ghost use Rattle.tl_run.specs.Signing.{LogKey};
 
-    /// What contracts see of it.
+    /// What contracts see of the key.
     ghost log_key: { Self → LogKey };
 
-    /// The name.
+    /// Returns the key's name.
     fn origin(&self) -> &str
         ensures { result.now ≡ (log_key self.now).name };
 
-    /// The line of its signature of a text (C2SP signed-note, "Format"). There is none where a request for memory is
-    /// refused, or where the name is no key's.
+    /// Returns the line of its signature of a text (C2SP signed-note, "Format"). It fails if allocation fails, or if
+    /// the name can't be a key's.
     fn line<A: Allocator + Copy>(
         &self,
         alloc: A,
@@ -48,7 +48,7 @@ impl<'a> Model for HmacLogSigner<'a> {
 }
 
 impl<'a> HmacLogSigner<'a> {
-    /// The key of this origin and this secret.
+    /// Returns the key of this origin and this secret.
     pub fn new(origin: &'a str, secret: &'a [u8]) -> HmacLogSigner<'a>
         ensures { result ≡ record { name = origin.now; secret = secret.now } }
     {

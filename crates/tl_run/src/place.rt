@@ -1,16 +1,16 @@
-//! What of a command is on a device.
+//! The file, folder or host at which a device failed.
 
 use std::fmt::{self, Display, Formatter};
 use tl_tile::Resource;
 
-/// What of a command is on a device: a file, a folder or a host that its options name.
+/// What the options of a command name on a device: a file, a folder or a host.
 #[derive(Clone, Copy, Debug, PartialEq, Eq)]
 pub enum Place {
     /// The file of a key or of a checkpoint.
     File,
     /// The file of a witness's lines, or of the checkpoint that a reader trusted last.
     State,
-    /// The folder of a log, or a resource there.
+    /// The folder of a log, or a resource in it.
     Log(Option<Resource>),
     /// A resource of the log that is read.
     Source(Resource),

@@ -1,4 +1,4 @@
-//! The streams of a command: its whole input, and what it prints.
+//! Reads the whole input of a command, and prints a text.
 
 ghost use Rattle.std.specs.Prelude.{◌≡◌, IfErr, OnErr, OnOk};
 ghost use Rattle.tl_run.specs.Run.{ReadsInput};
@@ -12,7 +12,8 @@ use tl_device::{Counted, InputFault, read_whole, write_whole};
 /// The most bytes that a command reads, 64 MiB.
 pub const MOST_INPUT: u64 = 67_108_864;
 
-/// All bytes that the reader gives, to its end. More than `most` are `TooLarge`, a read that fails is `Read`.
+/// Returns all bytes that the reader gives, to its end. It fails with `TooLarge` if there are more than `most`, with
+/// `Read` if a read fails, and with `OutOfMemory` if allocation fails.
 pub fn read_input<A: Allocator, R: Read>(
     alloc: A,
     reader: &mut Counted<R>,
@@ -28,7 +29,8 @@ pub fn read_input<A: Allocator, R: Read>(
     }
 }
 
-/// Prints the whole text. A write that fails or takes no byte is `Write`, after which a prefix of the text was written.
+/// Prints the whole text. It fails with `Write` if a write fails or takes no byte; a prefix of the text was written
+/// then.
 pub fn print_text<W: Write>(writer: &mut Counted<W>, text: &[u8]) -> Result<(), RunFault>
     ensures whole { OnOk result (WroteWhole (passage W.contents writer.old writer.new) text.now) }
     ensures fault { IfErr result (λ fault. fault ≡ RunFault.Write) }

@@ -12,7 +12,7 @@ use Rattle.tl_serve.specs.declared.options.KnownLogs.TheVariants.{One, Listed}
 use Rattle.tl_serve.specs.declared.witness_fault.WitnessFault.{WitnessFault}
 use Rattle.tl_serve.specs.declared.witness_fault.WitnessFault.TheVariants.{Run}
 
--- how a witness ended that ends as other commands do
+-- how a witness ends that ends as other commands do
 abbrev pub by_witness : Result (Unit {0}) RunFault → Result (Unit {0}) WitnessFault
 by_witness (Ok done) = Ok done
 by_witness (Err fault) = Err (Run fault)
@@ -25,11 +25,11 @@ by_state (state.Broken line) = Chain line
 by_state state.TooLarge = TooLarge
 by_state state.OutOfMemory = OutOfMemory
 
--- one log is served if its name is a key's; those that a file names are checked once it was read
+-- one log is served if its name is a key's; logs that a file names are checked once the file was read
 abbrev pub MayServe : KnownLogs → Type 0
 MayServe (One origin key) = IsKeyName (string_bytes origin)
 MayServe (Listed path) = ⊤
 
--- others are refused, and nothing was read
+-- other logs are refused before anything is read
 abbrev pub RefusesLog : KnownLogs → Passage → Result (Unit {0}) WitnessFault → Type 0
 RefusesLog logs i result = (MayServe logs → ⊥) → (result ≡ Err (Run BadOrigin)) × IsUnread i

@@ -46,8 +46,8 @@ pub(crate) fn answer<H: Clock + Net + Wait, P: Resources>(
     signals.end_answering();
 }
 
-/// Starts a thread that answers from each of these resources, as long as threads can be started.
-/// `OutOfMemory`: none can.
+/// Starts a thread that answers from each of these resources, as long as threads can be started. Fails with
+/// `OutOfMemory` if none can.
 pub(crate) fn start_answering<
     's,
     E,

@@ -11,7 +11,7 @@ use tl_key::{CosignerVerifier, KeyFault, read_verifier_key};
 use tl_run::RunFault;
 use tl_source::Url;
 
-// Returns the verifier key of a witness that this text spells. `BadKey`: it spells none.
+// Returns the verifier key of a witness that this text spells. Fails with `BadKey` if it spells none.
 fn key_of(alloc: Global, text: &str) -> Result<CosignerVerifier<Global>, RunFault>
     ensures { IfOk result (IsVerifierText cosignature_kind text.now) }
 {
@@ -22,7 +22,7 @@ fn key_of(alloc: Global, text: &str) -> Result<CosignerVerifier<Global>, RunFaul
     }
 }
 
-/// Returns the verifier keys of these witnesses, in order. `BadKey`: a text spells none.
+/// Returns the verifier keys of these witnesses, in order. Fails with `BadKey` if a text spells none.
 pub(crate) fn keys_of_asked(
     alloc: Global,
     asked: &[AskedWitness],
@@ -37,7 +37,7 @@ pub(crate) fn keys_of_asked(
     Ok(keys)
 }
 
-/// Returns the addresses of these witnesses, in order. `Malformed`: a text is no address over HTTP.
+/// Returns the addresses of these witnesses, in order. Fails with `Malformed` if a text is no address over HTTP.
 pub(crate) fn urls_of_asked(
     alloc: Global,
     asked: &[AskedWitness],

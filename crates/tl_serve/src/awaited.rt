@@ -15,8 +15,8 @@ const WAKE: Token = Token(1);
 // The most events that one poll returns.
 const MOST_EVENTS: usize = 4;
 
-/// An input that can be waited for: that of a descriptor, if the system can watch it. Any other
-/// input is never waited for, since a read of a file returns at once.
+/// An input that can be waited for: that of a descriptor, if the system can watch it. Any other input is never waited
+/// for, since a read of a file returns at once.
 #[derive(Drop)]
 pub(crate) struct Awaited {
     poll: Poll,
@@ -26,8 +26,8 @@ pub(crate) struct Awaited {
 }
 
 impl Awaited {
-    /// Returns the input of this descriptor, and what wakes the thread that waits for it. `Read`:
-    /// the system refuses to watch.
+    /// Returns the input of this descriptor, and what wakes the thread that waits for it. Fails with `Read` if the
+    /// system refuses to watch.
     pub(crate) fn new<H: Net>(
         rt: &H,
         alloc: Global,
@@ -50,9 +50,8 @@ impl Awaited {
         Ok((awaited, waker))
     }
 
-    /// Waits until the input can be read or has ended, or the thread is woken, and reports whether
-    /// it is the input. After the end it waits until another writer comes. `Read`: the system
-    /// refuses to watch.
+    /// Waits until the input can be read or has ended, or the thread is woken, and reports whether it is the input.
+    /// After the end it waits until another writer comes. Fails with `Read` if the system refuses to watch.
     pub(crate) fn wait(&mut self) -> Result<bool, RunFault> {
         let Some(descriptor) = self.descriptor else {
             return Ok(true);
@@ -73,7 +72,7 @@ impl Awaited {
         Ok(tells_input(&self.events))
     }
 
-    /// Whether the last read came to the end.
+    /// Reports whether the last read came to the end.
     pub(crate) fn has_ended(&self) -> bool {
         self.has_ended
     }
@@ -85,7 +84,7 @@ impl Awaited {
     }
 }
 
-// Whether one of the events is of the input.
+// Reports whether one of the events is of the input.
 fn tells_input(events: &Events) -> bool {
     for event in events.iter() {
         if event.token() == INPUT {

@@ -32,8 +32,8 @@ fn listen<H: Net<Listener = TcpListener, Stream = TcpStream>>(
 }
 
 impl BoundListener {
-    /// Binds the address of the options, before anything is made for the server. `Listen`: the
-    /// address is refused, and the reason is reported on `out`.
+    /// Binds the address of the options, before anything is made for the server. If the address can't be bound, it
+    /// prints the reason to `out` and fails with `Listen`.
     pub fn bind<H: Net<Listener = TcpListener, Stream = TcpStream>, L: Write>(
         rt: &H,
         alloc: Global,

@@ -82,17 +82,17 @@ impl Connection {
         }
     }
 
-    /// Whether there is an answer.
+    /// Reports whether there is an answer.
     pub(crate) fn is_answered(&self) -> bool {
         self.answer.is_some()
     }
 
-    /// Whether it waits for the index of an entry.
+    /// Reports whether it waits for the index of an entry.
     pub(crate) fn is_waiting(&self) -> bool {
         self.answer.is_none() && self.receipt.is_some()
     }
 
-    /// Whether it waits for an entry whose index is below this size.
+    /// Reports whether it waits for an entry whose index is below this size.
     pub(crate) fn is_published(&self, size: u64) -> bool {
         match &self.receipt {
             Some(receipt) => self.is_waiting() && receipt.index_below(size).is_some(),
@@ -306,7 +306,7 @@ impl Connection {
         self.advance(context, resources)
     }
 
-    /// Whether it waits for room to write, and not for input.
+    /// Reports whether it waits for room to write, and not for input.
     pub(crate) fn wants_to_write(&self) -> bool {
         self.answer.is_some() && !self.is_draining
     }

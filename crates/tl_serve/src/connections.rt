@@ -19,8 +19,7 @@ const MOST_EVENTS: usize = 1024;
 // How many milliseconds an answer in progress may still take after the listener closes.
 const GRACE: u64 = 1000;
 
-// How often an accept that is refused for now is tried again, and how many milliseconds to wait in
-// between.
+// How often an accept that fails for now is tried again, and how many milliseconds to wait in between.
 const TRIES: u32 = 1000;
 
 const PAUSE: u64 = 10;
@@ -41,13 +40,13 @@ pub(crate) struct Connections<'d, H> {
     // How many entries were published when the connections that wait for a publication were last
     // answered.
     published: u64,
-    // Whether connections may be pending, and how many accepts in a row were refused for now.
+    // Whether connections may be pending, and how many accepts in a row failed for now.
     has_pending: bool,
     refusals: u32,
 }
 
 impl<'d, H: Clock> Connections<'d, H> {
-    /// Returns an empty set of connections. `Accept`: the machine's clock can't be read.
+    /// Returns an empty set of connections. Fails with `Accept` if the machine's clock can't be read.
     pub(crate) fn new(
         context: Context<'d, H>,
         listener: &'d Listener,
@@ -108,7 +107,7 @@ impl<'d, H> Connections<'d, H> {
             .is_ok()
     }
 
-    // Whether a connection waits for an entry whose index is below this size.
+    // Reports whether a connection waits for an entry whose index is below this size.
     fn is_published(&self, key: usize, size: u64) -> bool {
         match self.connections.get(key) {
             Some(connection) => connection.is_published(size),
@@ -255,7 +254,7 @@ impl<'d, H: Clock + Net + Wait> Connections<'d, H> {
         connection.advance(&self.context, resources) == Next::Wait && self.keep(connection)
     }
 
-    // Accepts all pending connections. `Accept`: accepting fails for good.
+    // Accepts all pending connections. Fails with `Accept` if accepting fails for good.
     fn accept_all<P: Resources>(&mut self, resources: &mut P) -> Result<(), RunFault> {
         for _ in 0..u64::MAX {
             if !self.has_pending {
@@ -282,8 +281,8 @@ impl<'d, H: Clock + Net + Wait> Connections<'d, H> {
         Ok(())
     }
 
-    /// Answers connections, until no more are to be accepted and none is held. `Accept`: accepting
-    /// fails for good.
+    /// Answers connections, until no more are to be accepted and none is held. Fails with `Accept` if accepting fails
+    /// for good.
     pub(crate) fn answer_all<P: Resources>(&mut self, resources: P) -> Result<(), RunFault> {
         let mut resources = resources;
         let mut events = Events::with_capacity(self.context.alloc, MOST_EVENTS)?;

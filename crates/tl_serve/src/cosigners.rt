@@ -103,8 +103,8 @@ impl<H: Wait + Clock + Net<Stream = TcpStream>, P: Shelf + Drop> AsksInRounds<P>
     }
 }
 
-/// Starts a thread for each witness, which reads what its proofs need from a shelf of its own.
-/// `OutOfMemory`: a thread can't be started.
+/// Starts a thread for each witness, which reads what its proofs need from a shelf of its own. Fails with
+/// `OutOfMemory` if a thread can't be started.
 pub(crate) fn start_asking<'s, E, A: AsksInRounds<P> + Sync + 's, P: Send + Drop + 's>(
     scope: &'s Scope<'s, E>,
     alloc: Global,

@@ -39,7 +39,7 @@ pub(crate) trait Source: Send + Drop {
     /// Reads on.
     fn read_on(&mut self) -> Result<ReadOn, RunFault>;
 
-    /// Whether the last read came to the end of the input.
+    /// Reports whether the last read came to the end of the input.
     fn has_ended(&self) -> bool;
 
     /// Returns the last line, once the input has ended, if no newline ended it.

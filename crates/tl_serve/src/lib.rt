@@ -1,10 +1,23 @@
-//! The commands of the program `tlog` that run a log or a witness over HTTP: `serve`, in memory or on a shelf, and
-//! `witness`. Several threads answer.
+//! The servers of the program `tlog`: `serve`, which runs a log, and `witness`, which cosigns checkpoints of logs.
 //!
-//! ```
-//! let options = ServeOptions { origin, key: LogKey::Secret(secret), .. };
-//! // reports `listening 127.0.0.1:8080`, and ends in time
-//! run_serve(&rt, alloc, &options, None, &mut reader, &mut log)?;
+//! `run_serve` keeps a log in memory, and `run_serve_shelf` on a shelf, a folder or a bucket, where it outlives the
+//! server. Both answer requests over HTTP for the log's checkpoint, tiles and entry bundles (C2SP tlog-tiles). The
+//! log grows by the lines of an input and, if the options say so, by what is posted to `/add`. Several threads
+//! answer, one for each lane sends entries, and one takes, signs and publishes them. With witnesses to ask,
+//! `run_serve_cosigned` shows a checkpoint only once enough of them have cosigned it. `run_witness` serves a witness
+//! of one log or of many (C2SP tlog-witness); it prints a line for each link before it answers, from which the next
+//! run goes on.
+//!
+//! A server binds its address first, reports it on a writer, and ends after as many connections as the options say,
+//! or once something fails.
+//!
+//! ```rust
+//! // `options` name the log, its key and the address; reports `listening 127.0.0.1:8080`, and ends in time
+//! run_serve(&rt, Global, &options, None, &mut reader, &mut log)?;
+//!
+//! // `witness` names the logs and the witness's key; prints a line for each checkpoint that it cosigns
+//! let bound = BoundListener::bind(&rt, Global, &witness.server, &mut log)?;
+//! run_witness(&rt, Global, &witness, Some(&bound), &mut reader, &mut writer, &mut log)?;
 //! ```
 #![tactic(auto)]
 

@@ -54,7 +54,7 @@ pub(crate) enum Accepted {
     Over,
 }
 
-// Whether an accept failed for this one connection, or for now.
+// Reports whether an accept failed for this one connection, or for now.
 fn is_passing(error: &io::Error) -> bool {
     match error.kind() {
         ErrorKind::Interrupted
@@ -81,7 +81,7 @@ fn watch<H: Net>(rt: &H, socket: &TcpListener) -> io::Result<(Poll, Waker)> {
     Ok((poll, waker))
 }
 
-// Returns as many of both as there are threads. `Accept`: the system refuses.
+// Returns as many polls and wakers as there are threads. Fails with `Accept` if the system refuses.
 fn watch_all<H: Net>(
     rt: &H,
     alloc: Global,
@@ -100,8 +100,8 @@ fn watch_all<H: Net>(
 }
 
 impl Listener {
-    /// Opens the listener at this address for this many threads, and reports the address. `Accept`:
-    /// the system refuses to watch it.
+    /// Opens the listener at this address for this many threads, and reports the address. Fails with `Accept` if the
+    /// system refuses to watch it.
     pub(crate) fn open<H: Net, L: Write>(
         rt: &H,
         alloc: Global,
@@ -151,13 +151,13 @@ impl Listener {
         self.wake_all();
     }
 
-    /// Whether the listener was closed.
+    /// Reports whether the listener was closed.
     pub(crate) fn is_closed(&self) -> bool {
         self.is_closed.load(Ordering::SeqCst)
     }
 
-    /// Whether no more connections are accepted: the listener was closed, or as many were taken as
-    /// are to be answered.
+    /// Reports whether no more connections are accepted: the listener was closed, or as many were taken as are to be
+    /// answered.
     pub(crate) fn is_over(&self) -> bool {
         self.is_closed() || self.left.load(Ordering::SeqCst) == 0
     }
@@ -199,7 +199,7 @@ impl Listener {
         }
     }
 
-    /// Returns the next connection, if one is pending. `Accept`: accepting fails for good.
+    /// Returns the next connection, if one is pending. Fails with `Accept` if accepting fails for good.
     pub(crate) fn accept(&self) -> Result<Accepted, RunFault> {
         if !self.take_one() {
             return Ok(Accepted::Over);
@@ -212,7 +212,7 @@ impl Listener {
         }
     }
 
-    /// Whether one more connection may be held. If so, it counts until it is released.
+    /// Reports whether one more connection may be held. If so, it counts until it is released.
     pub(crate) fn acquire(&self) -> bool {
         let may_be = self.held.fetch_add(1, Ordering::SeqCst) < self.clients;
         if !may_be {

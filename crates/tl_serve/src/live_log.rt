@@ -31,13 +31,13 @@ pub(crate) trait LiveLog: Drop {
     /// What it began with, if it is on a shelf.
     ghost begun: { Self → Option Begun };
 
-    /// All but what its lanes gave is unchanged.
+    /// Everything is unchanged but what its lanes gave.
     ghost rests: { Self → Self → Type 0 };
 
-    /// What publishing makes of it, by the result.
+    /// How publishing changes it, by the result.
     ghost shows: { Self → Self → Result Bool RunFault → Type 0 };
 
-    /// What asking for its head makes of it, by the result.
+    /// How asking for its head changes it, by the result.
     ghost heads: { Self → Self → Option Head → Type 0 };
 
     /// Takes in at most this many entries of a lane, and returns how many it took.

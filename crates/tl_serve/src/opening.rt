@@ -51,9 +51,8 @@ pub(crate) fn size_of(
     }
 }
 
-/// What a log is opened with: the entries that it goes on from, those that it is to be sent, the
-/// lines that come later, the number of lanes, and the room of each. If posted entries are taken,
-/// the last lane is for them.
+/// What a log is opened with: the entries that it goes on from, the entries to send it, the lines that come later,
+/// the number of lanes, and the room of each. If posted entries are taken, the last lane is for them.
 #[derive(Drop)]
 pub(crate) struct Plan {
     pub(crate) base: Vec<Vec<u8>>,
@@ -63,8 +62,8 @@ pub(crate) struct Plan {
     pub(crate) room: usize,
 }
 
-// Returns the entries that a log of this size goes on from, and those that it is to be sent. If
-// lines are followed, the latter come later. `Malformed`: there are fewer.
+// Returns the entries that a log of this size goes on from, and those to send it; if lines are followed, the latter
+// come later. Fails with `Malformed` if there are fewer.
 fn read_log<R: Read>(
     alloc: Global,
     options: &ServeOptions,
@@ -124,7 +123,7 @@ pub(crate) fn read_plan<R: Read>(
     })
 }
 
-// Returns what each submitter is to send: the entries are dealt out in turn.
+// Returns what each submitter has to send: the entries are dealt out in turn.
 fn lanes_of(
     alloc: Global,
     submitters: Vec<Submitter<Global, Global>>,
@@ -144,8 +143,8 @@ fn lanes_of(
     Ok(lanes)
 }
 
-/// Returns what each submitter is to send: the entries are dealt out in turn. If posted entries are
-/// taken, the last submitter is for them, and is dealt none.
+/// Returns what each submitter has to send: the entries are dealt out in turn. If posted entries are taken, the last
+/// submitter is for them, and is dealt none.
 pub(crate) fn lanes_with_posts(
     alloc: Global,
     submitters: Vec<Submitter<Global, Global>>,

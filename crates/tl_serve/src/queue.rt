@@ -37,7 +37,7 @@ struct Waiting {
     has_failed: bool,
 }
 
-// What the thread that waits for a line is to do.
+// What the thread that waits for a line has to do.
 #[derive(Drop)]
 enum Step {
     // Nothing: its line was written.
@@ -71,14 +71,14 @@ impl Waiting {
         self.kept.iter().position(|kept| kept.ticket == ticket)
     }
 
-    // Whether the holder of this ticket must wait for the thread that writes.
+    // Reports whether the holder of this ticket must wait for the thread that writes.
     fn is_early(&self, ticket: u64) -> bool
         ensures { IsTrue result → (self.now.is_writing ≡ true) × (self.now.has_failed ≡ false) }
     {
         self.is_writing && !self.has_failed && self.place_of(ticket).is_none()
     }
 
-    // Returns what the holder of this ticket is to do, once it need not wait.
+    // Returns what the holder of this ticket has to do, once it need not wait.
     fn step(&mut self, alloc: Global, ticket: u64) -> Step
         ensures { Steps ticket self.old self.new result }
     {
@@ -155,7 +155,7 @@ impl<'w, O: Write> LineQueue<'w, O> {
         waiting.put(line)
     }
 
-    // Returns what the holder of this ticket is to do, once the thread that writes is done.
+    // Returns what the holder of this ticket has to do, once the thread that writes is done.
     fn step<R: Wait>(&self, rt: &R, ticket: u64) -> Step {
         let waiting = self.waiting.lock(rt);
         let mut waiting = self
@@ -178,8 +178,8 @@ impl<'w, O: Write> LineQueue<'w, O> {
         self.changed.notify_all();
     }
 
-    /// Has a line written, and returns its link once it was, by this thread or by another. After a
-    /// write failed, every call fails, and so do those that wait. It may wait.
+    /// Writes a line, by this thread or another, and returns its link. After a write failed, every call fails, and so
+    /// do those that wait. It may wait.
     pub(crate) fn save<R: Wait>(&self, rt: &R, line: LinkLine) -> Result<WrittenLink, SaveFault> {
         let Some(ticket) = self.put(rt, line) else {
             return Err(SaveFault);

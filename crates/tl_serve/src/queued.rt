@@ -51,7 +51,8 @@ impl<H: Wait + Sync> Source for Queued<'_, H> {
         Ok(ReadOn::More)
     }
 
-    // An empty queue counts as ended: the thread goes on until all connections are answered.
+    // Reports whether the queue is empty, which counts as ended: the thread goes on until all connections are
+    // answered.
     fn has_ended(&self) -> bool {
         self.queue.is_empty(self.rt)
     }

@@ -44,24 +44,23 @@ impl Request {
         self.has_ended = true;
     }
 
-    /// Whether nothing more comes.
+    /// Reports whether nothing more comes.
     pub(crate) fn has_ended(&self) -> bool {
         self.has_ended
     }
 
-    /// Whether enough came to try an answer.
+    /// Reports whether enough came to try an answer.
     pub(crate) fn is_enough(&self) -> bool {
         self.bytes.len() >= self.enough
     }
 
-    /// Whether its head isn't complete yet, as far as that is known.
+    /// Reports whether its head isn't complete yet, as far as that is known.
     pub(crate) fn is_begun(&self) -> bool {
         self.most <= MOST_HEAD
     }
 
-    /// Records that an answer was tried in vain, and that it asked for this many more bytes. Up to
-    /// the most bytes of a head, each of them may end it. Beyond, they are of a body, and all are
-    /// needed.
+    /// Records that an answer could not be given yet, because it asked for this many more bytes. Up to the most bytes
+    /// of a head, each byte may end it. Beyond, they are of a body, and all are needed.
     pub(crate) fn want(&mut self, asked: usize) {
         let len = self.bytes.len();
         self.most = len.saturating_add(asked);

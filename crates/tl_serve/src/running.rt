@@ -23,7 +23,7 @@ pub(crate) trait Feed {
     ghost use Rattle.tl_run.specs.declared.fault.RunFault.{RunFault};
     ghost use Rattle.tl_loop.specs.declared.publish_loop.Event.{Event};
 
-    /// What waiting makes of it, by what happened.
+    /// How waiting changes it, by what happened.
     ghost gives: { Self → Self → Event RunFault → Type 0 };
 
     /// Waits until something happens. If entries were taken in that aren't published, `published`

@@ -34,12 +34,12 @@ impl<'a, 'w, H: Wait, O: Write> LineSaver<'a, 'w, H, O> {
         }
     }
 
-    /// Whether a save has failed.
+    /// Reports whether a save has failed.
     pub(crate) fn has_failed(&self) -> bool {
         self.failures > 0
     }
 
-    // Has the line of a link written, and checks what comes back.
+    // Writes the line of a link by the queue, and checks what comes back.
     fn print<A: Allocator>(&self, origin: &str, link: &Link<A>) -> Result<WrittenLink, SaveFault>
         requires { IsChainLine (record { origin = origin.now; step = step_of link.now }) }
         ensures { IfOk result (λ written. written ≡ (origin.now, step_of link.now)) }

@@ -53,7 +53,7 @@ pub fn threads_of<H: Threads>(rt: &H, asked: Option<u64>) -> u32
     }
 }
 
-// Has each reader see at least this publication.
+// Makes each reader see at least this publication.
 fn learn(readers: Vec<BoardReader<Global>>, published: &Published) -> Vec<BoardReader<Global>>
     requires { All (λ r. r.book ≡ published.now.book) readers.items }
 {

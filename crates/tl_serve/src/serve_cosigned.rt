@@ -164,7 +164,7 @@ fn serve_in<
     Ended { served, found }
 }
 
-// Does the same in a scope of threads.
+// Serves as `serve_in` does, in a scope of threads of its own.
 fn serve_asked<
     H: Host + Net<Listener = TcpListener, Stream = TcpStream>,
     A: AsksInRounds<P> + Sync,
@@ -248,12 +248,11 @@ fn serve_keyed<
     ended.served
 }
 
-/// Serves as `run_serve_shelf` does, but shows a checkpoint only once enough of the witnesses have
-/// cosigned it (C2SP tlog-witness, tlog-cosignature). It is kept as a proposal, and a thread for
-/// each witness asks, with proofs from a shelf of its own. If one gives no cosignature, the reason
-/// is reported on `out`, and it is asked again after a pause. Meanwhile readers see what was shown
-/// before. `BadKey`: a text is no witness's key, or two have one name. `Malformed`: one is no
-/// address.
+/// Serves as `run_serve_shelf` does, but shows a checkpoint only once enough witnesses have cosigned it (C2SP
+/// tlog-witness, tlog-cosignature). It is kept as a proposal, and a thread for each witness asks, with proofs from a
+/// shelf of its own. If a witness gives no cosignature, the reason is printed to `out`, and it is asked again after a
+/// pause. Until then readers see the last one shown. Fails with `BadKey` if a text is no witness's key, or two have
+/// one name, and with `Malformed` if one is no address.
 pub fn run_serve_cosigned<
     H: Host + Net<Listener = TcpListener, Stream = TcpStream>,
     S: Shelf + Drop,

@@ -244,12 +244,11 @@ fn serve_under<
     Served { shelf, outcome }
 }
 
-/// Serves as `run_serve` does, but at this site, and with the log on a shelf, where it begins or
-/// goes on. What its lanes give is appended, published, and reported once it survives a crash. A
-/// thread for each of `shown`, of which there are `threads_of`, answers with what is there. The
-/// server ends if the shelf fails. The shelf is given back; `found` has what was read. It may wait.
-/// `NothingThere`: no log is there. `Taken`: one is, but is to begin. `Older`: it lacks `start`
-/// entries.
+/// Serves as `run_serve` does, at this site, the log on a shelf, which begins or goes on there. What the lanes give
+/// is appended, published, and reported once it survives a crash. A thread for each of `shown`, of which there are
+/// `threads_of`, answers from it. If the shelf fails, the server ends. Gives the shelf back; `found` has what was
+/// read. It may wait. Fails with `NothingThere` if no log is there, with `Taken` if one is but should begin, and with
+/// `Older` if it lacks `start` entries.
 pub fn run_serve_shelf<
     H: Host + Net<Listener = TcpListener, Stream = TcpStream>,
     S: LogShelf + Drop,

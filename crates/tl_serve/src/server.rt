@@ -69,7 +69,7 @@ impl<H: Host + Net<Listener = TcpListener, Stream = TcpStream>, G: Gate> Server<
         threads_of(self.rt, self.options.server.threads) + 1
     }
 
-    // Whether entries come while the log is served: they are gathered to a batch while more wait.
+    // Reports whether entries come while the log is served: they are gathered to a batch while more wait.
     fn goes_on(&self) -> bool {
         self.options.follow || self.options.takes_posts
     }

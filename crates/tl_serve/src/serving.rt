@@ -173,8 +173,7 @@ fn drive_rest<O: LiveLog, F: Feed, L: Write>(
     publish_loop
 }
 
-// Starts the threads, carries out the log's steps and takes in the ends of its lanes. Returns what
-// its loop came to.
+// Starts the threads, carries out the log's steps and takes in the ends of its lanes. Returns the loop as it is then.
 fn run_threads<
     's,
     E,
@@ -210,7 +209,7 @@ fn run_threads<
     Ok(drive_rest(alloc, running, publish_loop, sent, &mut feed, out))
 }
 
-// Does the same, and has all threads end, however it ended.
+// Runs the threads as `run_threads` does, and makes all of them end, however the run ended.
 fn run_in<
     's,
     E,

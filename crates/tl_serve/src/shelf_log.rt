@@ -30,7 +30,7 @@ pub(crate) struct ShelfLog<S> {
     was: Snapshot<Ledger<Global>>,
 }
 
-// Whether a publication is due: it was due before, or something waits.
+// Reports whether a publication is due: it was due before, or something waits.
 fn is_due_now(was_due: bool, intake: &Intake<Global, Global>) -> bool
     ensures { result ≡ false → (was_due ≡ false) × (intake.now.waiting ≡ []) }
 {

@@ -39,9 +39,9 @@ pub(crate) struct Signals {
 }
 
 impl Signals {
-    /// Returns signals of which none is given yet. `following` wakes the thread that follows the
-    /// input, if one does. Connections submit entries to the queue, and witnesses are asked by the
-    /// ballot, if there is one. `Read`: the system refuses.
+    /// Returns signals none of which is given yet. `following` wakes the thread that follows the input, if one does.
+    /// Connections submit entries to the queue, and witnesses are asked by the ballot, if there is one. Fails with
+    /// `Read` if the system refuses.
     pub(crate) fn new<H: Net>(
         rt: &H,
         alloc: Global,
@@ -112,24 +112,23 @@ impl Signals {
         self.queue.as_ref()
     }
 
-    /// Whether all connections are answered, so that the log ends with its input.
+    /// Reports whether all connections are answered, so that the log ends with its input.
     pub(crate) fn is_over(&self) -> bool {
         self.is_over.load(Ordering::SeqCst)
     }
 
-    /// Has nothing more taken from now on: the threads that send end.
+    /// Stops the threads that send: nothing more is taken.
     pub(crate) fn stop(&self) {
         self.is_stopped.store(true, Ordering::SeqCst);
         self.wake_senders();
     }
 
-    /// Whether nothing more is taken.
+    /// Reports whether nothing more is taken.
     pub(crate) fn is_stopped(&self) -> bool {
         self.is_stopped.load(Ordering::SeqCst)
     }
 
-    /// Has witnesses asked again soon, if they are asked about what is proposed: something came
-    /// that waits for them.
+    /// Makes the ballot ask the witnesses again soon, if there is one: something came that waits for them.
     pub(crate) fn urge(&self) {
         if let Some(ballot) = &self.ballot {
             ballot.urge();
@@ -180,7 +179,7 @@ impl Signals {
         Some(lines.remove(0))
     }
 
-    // Whether all threads that were to answer and to send have ended.
+    // Reports whether all threads that were to answer and to send have ended.
     fn are_done(&self) -> bool {
         self.answering.load(Ordering::SeqCst) == 0 && self.sending.load(Ordering::SeqCst) == 0
     }
@@ -205,7 +204,7 @@ impl Signals {
         None
     }
 
-    /// Waits until something happens, at most this long. Returns none if nothing does. `Read`: the
+    /// Waits until something happens, at most this long. Returns None if nothing does. Fails with `Read` if the
     /// system refuses to wait.
     pub(crate) fn wait_for<H: Wait>(
         &self,
@@ -221,7 +220,7 @@ impl Signals {
         }
     }
 
-    /// Waits until something happens. `Read`: the system refuses to wait.
+    /// Waits until something happens. Fails with `Read` if the system refuses to wait.
     pub(crate) fn wait<H: Wait>(&self, rt: &H) -> Event<RunFault> {
         for _ in 0..u64::MAX {
             if let Some(event) = self.wait_for(rt, None) {

@@ -61,9 +61,9 @@ pub(crate) struct SubmitQueue {
 }
 
 impl SubmitQueue {
-    /// Returns a queue whose entries go by this lane to a log with this many entries, which are
-    /// published, and of which some are remembered. At most `room` entries wait to be sent. `Read`:
-    /// the system refuses to wait for them.
+    /// Returns a queue whose entries go by this lane to a log with this many entries, which are published, and of
+    /// which some are remembered. At most `room` entries wait to be sent. Fails with `Read` if the system refuses to
+    /// wait for them.
     pub(crate) fn new<H: Net>(
         rt: &H,
         alloc: Global,
@@ -130,13 +130,13 @@ impl SubmitQueue {
         let _ = self.waker.wake();
     }
 
-    /// Waits until something is submitted, or nothing will be any more. `Read`: the system refuses
-    /// to wait.
+    /// Waits until something is submitted, or nothing will be any more. Fails with `Read` if the system refuses to
+    /// wait.
     pub(crate) fn wait<H: Wait>(&self, rt: &H) -> Result<(), RunFault> {
         self.watch.lock(rt).wait(None)
     }
 
-    /// Whether no entry is to be sent.
+    /// Reports whether no entry is to be sent.
     pub(crate) fn is_empty<H: Wait>(&self, rt: &H) -> bool {
         self.submitted.lock(rt).entries.is_empty()
     }

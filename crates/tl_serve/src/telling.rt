@@ -88,7 +88,7 @@ pub(crate) fn tell_not_published<L: Write>(
     }
 }
 
-/// Reports why an address is refused.
+/// Reports why an address can't be bound.
 pub(crate) fn tell_refused<L: Write>(
     alloc: Global,
     log: &mut Counted<L>,

@@ -17,7 +17,7 @@ pub(crate) struct Watch {
 }
 
 impl Watch {
-    /// Returns a watch, and what wakes it. `Read`: the system refuses.
+    /// Returns a watch, and what wakes it. Fails with `Read` if the system refuses.
     pub(crate) fn new<H: Net>(rt: &H, alloc: Global) -> Result<(Watch, Waker), RunFault> {
         let events = Events::with_capacity(alloc, MOST_EVENTS)?;
         let Ok(poll) = Poll::new(rt) else {
@@ -29,7 +29,7 @@ impl Watch {
         }
     }
 
-    /// Waits until it is woken, at most this long. `Read`: the system refuses to wait.
+    /// Waits until it is woken, at most this long. Fails with `Read` if the system refuses to wait.
     pub(crate) fn wait(&mut self, limit: Option<Duration>) -> Result<(), RunFault> {
         match self.poll.poll(&mut self.events, limit) {
             Ok(()) => Ok(()),

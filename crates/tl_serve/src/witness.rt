@@ -99,7 +99,7 @@ pub(crate) fn serve_trusted<
     serve_all(rt, alloc, options, bound, &witness, writer, log)
 }
 
-// Returns whom a witness trusts that knows one log by this key and cosigns with that one.
+// Returns whom a witness trusts that knows one log by `verifier` and cosigns with `cosigner`.
 fn trust_of(
     alloc: Global,
     origin: &str,
@@ -118,7 +118,7 @@ fn trust_of(
     Ok(trusts)
 }
 
-// Returns a demonstration key. If the name is no key's, the fault is this one.
+// Returns a demonstration key. Fails with `fault` if the name is no key's.
 fn demonstration(
     alloc: Global,
     name: &str,
@@ -139,7 +139,7 @@ enum Known {
     Public(VerifierKey<Note, Global>),
 }
 
-// Returns the key that a log of this name is known by. `BadOrigin`: it is of another name.
+// Returns the key that a log of this name is known by. Fails with `BadOrigin` if the key has another name.
 fn known_key(alloc: Global, origin: &str, key: &LogVerifierKey) -> Result<Known, RunFault> {
     match key {
         LogVerifierKey::Secret(secret) => {
@@ -213,11 +213,11 @@ fn run_one<
     serve_trusted(rt, alloc, options, bound, trusts, chains, writer, log)
 }
 
-/// Serves a witness over HTTP, at this bound address or else at that of the options. It reads the
-/// lines that an earlier run printed, reports the address, then answers connections, each by
-/// `tl_server::serve_witness`, and ends after as many as the options say, or once something fails.
-/// A line for each checkpoint that it cosigns anew is printed before the answer; if that fails, it
-/// ends. Lines of logs that a file doesn't name are passed over. It may wait.
+/// Serves a witness over HTTP, at this bound address or else at that of the options. It reads the lines that an
+/// earlier run printed and reports the address. Then it answers connections, each by `tl_server::serve_witness`, and
+/// ends after as many as the options say, or once something fails. It prints a line for each checkpoint that it
+/// cosigns anew before the answer; if that fails, it ends. Lines of logs that a file doesn't name are skipped. It may
+/// wait.
 pub fn run_witness<
     H: Host + Net<Listener = TcpListener, Stream = TcpStream>,
     R: Read,

@@ -80,14 +80,14 @@ impl Model for WrittenLink {
     ghost view = { λ w. w.line };
 }
 
-// Whether two lists of hashes are the same.
+// Reports whether two lists of hashes are the same.
 fn are_same(hashes: &[Hash], others: &[Hash]) -> bool
     ensures { IsTrue result ↔ (hashes.now ≡ others.now) }
 {
     hashes == others
 }
 
-// Whether two links are the same.
+// Reports whether two links are the same.
 fn is_same<A: Allocator>(one: &Link<Global>, other: &Link<A>) -> bool
     ensures { IsTrue result ↔ (step_of one.now ≡ step_of other.now) }
 {
@@ -98,7 +98,7 @@ fn is_same<A: Allocator>(one: &Link<Global>, other: &Link<A>) -> bool
 }
 
 impl WrittenLink {
-    /// Whether it is this link of this origin.
+    /// Reports whether it is this link of this origin.
     pub(crate) fn is_of<A: Allocator>(&self, origin: &str, link: &Link<A>) -> bool
         ensures { IsTrue result ↔ (self.now ≡ (origin.now, step_of link.now)) }
     {

@@ -1,5 +1,5 @@
-//! What no row can show: threads over one ring, readers beside an operator, and a witness that is asked by two at once.
-//! It has tests alone.
+//! Tests of what no row can show: threads over one ring, readers beside an operator, and a witness that two threads
+//! ask at once.
 #![tactic(auto)]
 
 #[cfg(test)]

@@ -1,4 +1,4 @@
-//! Logs for tests, and one step each of what is done with them.
+//! Logs for tests, and single steps on them.
 ghost use Rattle.std.specs.Prelude.{◌≡◌, IfOk};
 ghost use Rattle.tl_publisher.specs.Operating.{IsOperating};
 
@@ -19,14 +19,14 @@ pub const LOG_ID: u32 = 0x01020304;
 /// What sends to a lane.
 pub type Sender = Submitter<Global, Global>;
 
-/// The one signer of each log, the length key of its origin.
+/// Returns the one signer of each log, the length key of its origin.
 pub fn signers(alloc: Global) -> Result<Vec<Box<dyn Signer>>, AllocError> {
     let mut all: Vec<Box<dyn Signer>> = Vec::new(alloc);
     all.push(Box::new(alloc, LengthKey::new(alloc, ORIGIN, LOG_ID)?)?)?;
     Ok(all)
 }
 
-/// A log with so many lanes and one reader, under these signers.
+/// Returns a log with this many lanes and one reader, under these signers.
 pub fn opened<R: Wait + Drop>(
     rt: R,
     alloc: Global,
@@ -48,13 +48,13 @@ pub fn opened<R: Wait + Drop>(
     Ok((operator, submitters, reader))
 }
 
-/// Sends an entry. It tells whether it was taken.
+/// Sends an entry, and reports whether it was taken.
 pub fn send(alloc: Global, submitter: &mut Sender, entry: &[u8]) -> Result<bool, AllocError> {
     let entry = Vec::from_slice(alloc, entry)?;
     Ok(submitter.submit(entry).is_ok())
 }
 
-/// Takes up to `most` entries of a lane: how many, and nothing where it is refused.
+/// Takes up to `most` entries of a lane, and returns how many it took, or None if the call fails.
 pub fn taken<R: Wait + Drop>(operator: &mut Operator<R>, lane: u32, most: u64) -> Option<u64>
     requires { IsOperating (⟦<Operator<R> as RunningLog>⟧.state operator.old) }
     ensures { IsOperating (⟦<Operator<R> as RunningLog>⟧.state operator.new) }
@@ -65,7 +65,7 @@ pub fn taken<R: Wait + Drop>(operator: &mut Operator<R>, lane: u32, most: u64) -
     }
 }
 
-/// Publishes the log: its size.
+/// Publishes the log, and returns its size.
 pub fn published<R: Wait + Drop>(operator: &mut Operator<R>) -> Result<u64, PublishFault>
     requires { IsOperating (⟦<Operator<R> as RunningLog>⟧.state operator.old) }
     ensures { IsOperating (⟦<Operator<R> as RunningLog>⟧.state operator.new) }
@@ -76,7 +76,7 @@ pub fn published<R: Wait + Drop>(operator: &mut Operator<R>) -> Result<u64, Publ
     }
 }
 
-/// Takes one entry of a lane and publishes the log: its size.
+/// Takes one entry of a lane and publishes the log. It returns the log's size.
 pub fn grown<R: Wait + Drop>(operator: &mut Operator<R>, lane: u32) -> Option<u64>
     requires { IsOperating (⟦<Operator<R> as RunningLog>⟧.state operator.old) }
     ensures { IsOperating (⟦<Operator<R> as RunningLog>⟧.state operator.new) }
@@ -88,7 +88,7 @@ pub fn grown<R: Wait + Drop>(operator: &mut Operator<R>, lane: u32) -> Option<u6
     }
 }
 
-/// What the reader finds under a resource, and nothing where it got no answer.
+/// Returns what the reader finds under a resource, or None if it got no answer.
 pub fn found(
     alloc: Global,
     reader: &mut BoardReader<Global>,
@@ -100,7 +100,7 @@ pub fn found(
     }
 }
 
-/// The size that the reader sees, and nothing where it got no answer or nothing is published.
+/// Returns the size that the reader sees, or None if it got no answer or nothing is published.
 pub fn size_of(reader: &mut BoardReader<Global>) -> Option<u64> {
     match reader.head() {
         Ok(Some(head)) => Some(head.size),

@@ -21,7 +21,7 @@ const ORIGINS: [&str; 2] = ["example.com/a", "example.com/b"];
 // A witness.
 type Witness = SharedWitness<Sha256Tree, Global>;
 
-// The trust in the worked log's key for an origin.
+// Returns the trust in the worked log's key for an origin.
 fn trust(alloc: Global, origin: &str) -> Result<Trust<Global>, AllocError> {
     let mut verifiers: Vec<Box<dyn Verifier>> = Vec::new(alloc);
     verifiers.push(Box::new(alloc, LengthKey::new(alloc, ORIGIN, LOG_ID)?)?)?;
@@ -35,7 +35,7 @@ fn trust(alloc: Global, origin: &str) -> Result<Trust<Global>, AllocError> {
     })
 }
 
-// A witness of both origins that has cosigned nothing.
+// Returns a witness of both origins that has cosigned nothing.
 fn opened(alloc: Global) -> Result<Witness, Fail> {
     let mut trusts = Vec::new(alloc);
     for origin in ORIGINS {
@@ -69,8 +69,9 @@ fn answer_slowly<R: Wait>(
     witness.add(rt, body.as_bytes(), TIME, &mut saver)
 }
 
-// Answers three requests once the other thread saves, and tells it: this one, a malformed one, and one of an unknown
-// origin. Whether the other thread saved, the reply to this one, and the statuses of those to the others.
+// Answers three requests while the other thread saves, and then raises `answered`: `body`, a malformed one, and one
+// of an unknown origin. It returns whether the other thread saved, the reply to `body`, and the statuses of the other
+// two.
 fn answer_meanwhile<R: Wait>(
     rt: &R,
     alloc: Global,
@@ -88,7 +89,7 @@ fn answer_meanwhile<R: Wait>(
     (is_saving, reply, (malformed.status, unknown.status))
 }
 
-// Whether each reply is right where the second request comes while the link of the first is saved.
+// Reports whether each reply is right when the second request comes while the link of the first is saved.
 fn are_right_in_a_save<R: Threads + Wait + Sync>(
     rt: &R,
     alloc: Global,
@@ -118,7 +119,7 @@ fn are_right_in_a_save<R: Threads + Wait + Sync>(
     )
 }
 
-// The same of a new witness. Whether each origin then has its first link too.
+// Reports whether the replies of a new witness are right in that case, and each origin then has its first link.
 fn is_answered_in_a_save<R: Threads + Wait + Sync>(
     rt: &R,
     alloc: Global,
@@ -146,7 +147,7 @@ fn a_request_waits_for_no_other_origin(rt: HostRuntime) -> Result<(), Fail> {
 // How often a thread looks before it gives up.
 const TURNS: u64 = 10_000_000;
 
-// Waits until the flag is raised. False where it never was.
+// Waits until the flag is raised, and returns false if it never was.
 fn is_raised(flag: &AtomicBool) -> bool {
     for _ in 0..TURNS {
         if flag.load(Ordering::SeqCst) {
@@ -157,7 +158,7 @@ fn is_raised(flag: &AtomicBool) -> bool {
     false
 }
 
-// A saver that raises a flag when it is called, waits until another is raised, and fails where that never comes.
+// A saver that raises a flag when it is called, waits until another is raised, and fails if that never happens.
 #[derive(Drop)]
 struct WaitingSaver {
     inner: KeepingSaver,

@@ -19,7 +19,8 @@ const TRIES: u64 = 10_000_000;
 // The bundle of three entries, of which each shorter one is a part.
 const BUNDLE: &[u8] = b"\0\x01x\0\x01y\0\x01z";
 
-// Whether the reader finds the checkpoint, the first bundle and the first tile of a size that was published, at most 3.
+// Reports whether the reader finds the checkpoint, the first bundle and the first tile of a published size, at most
+// 3.
 fn is_whole(alloc: Global, reader: &mut BoardReader<Global>, size: u32) -> bool {
     let bundle = Resource::Entries {
         index: 0,
@@ -37,7 +38,8 @@ fn is_whole(alloc: Global, reader: &mut BoardReader<Global>, size: u32) -> bool 
         && found(alloc, reader, tile).map(|found| found.len()) == length
 }
 
-// Reads until the log has this size, at most 3. Whether it then has all of it, and had at each size before.
+// Reads until the log has this size, at most 3, and reports whether it then has all of it, and had at each size
+// before.
 fn sees(alloc: Global, reader: &mut BoardReader<Global>, size: u32) -> bool {
     for _ in 0..TRIES {
         let now = size_of(reader).unwrap_or(0);
@@ -75,7 +77,7 @@ fn is_raised(flag: &AtomicU64, number: u64) -> bool {
     false
 }
 
-// Publishes one entry more, and then waits until the reader saw it.
+// Publishes one entry more, and waits until the reader saw it.
 fn show_next<R: Wait + Drop>(operator: &mut Operator<R>, flag: &AtomicU64, size: u64) -> bool
     requires { IsOperating (⟦<Operator<R> as RunningLog>⟧.state operator.old) }
     ensures { IsOperating (⟦<Operator<R> as RunningLog>⟧.state operator.new) }
@@ -83,14 +85,14 @@ fn show_next<R: Wait + Drop>(operator: &mut Operator<R>, flag: &AtomicU64, size:
     grown(operator, 0) == Some(size) && is_raised(flag, size)
 }
 
-// The same three times.
+// Publishes three entries, each once the reader saw the one before.
 fn show_three<R: Wait + Drop>(operator: &mut Operator<R>, flag: &AtomicU64) -> bool
     requires { IsOperating (⟦<Operator<R> as RunningLog>⟧.state operator.old) }
 {
     show_next(operator, flag, 1) && show_next(operator, flag, 2) && show_next(operator, flag, 3)
 }
 
-// Sends three entries of a byte each. Whether each was taken.
+// Sends three entries of a byte each, and reports whether each was taken.
 fn are_sent(alloc: Global, submitter: &mut Sender) -> Result<bool, AllocError> {
     Ok(
         send(alloc, submitter, b"x")?
@@ -99,7 +101,7 @@ fn are_sent(alloc: Global, submitter: &mut Sender) -> Result<bool, AllocError> {
     )
 }
 
-// A log with three entries to take, and its reader.
+// Returns a log with three entries to take, and its reader.
 fn filled<R: Wait + Drop>(rt: R, alloc: Global) -> Result<(Operator<R>, BoardReader<Global>), Fail>
     ensures { IfOk result (λ r. IsOperating (⟦<Operator<R> as RunningLog>⟧.state r.0)) }
 {
@@ -112,7 +114,8 @@ fn filled<R: Wait + Drop>(rt: R, alloc: Global) -> Result<(Operator<R>, BoardRea
     Ok((operator, reader))
 }
 
-// Publishes three entries one by one, each when the reader saw the one before. Whether both saw that.
+// Publishes three entries one by one, each once the reader saw the one before, and reports whether both threads saw
+// that.
 fn are_shown<R: Threads + Wait>(rt: &R, alloc: Global) -> Result<bool, Fail> {
     let (mut operator, reader) = filled(rt, alloc)?;
     let flag = Arc::new(alloc, AtomicU64::new(0))?;

@@ -1,4 +1,4 @@
-//! What a person is told before a command runs.
+//! Prints what a user should know before a command runs.
 
 use std::fs::{Files, metadata};
 use std::io::Write;
@@ -10,7 +10,7 @@ fn has(words: &[String], wanted: &str) -> bool {
     words.iter().any(|word| word.as_str() == wanted)
 }
 
-// The value of an option: the word behind it, or what stands behind an equals sign in its own.
+// Returns the value of an option: the next word, or what stands behind an equals sign in the option's word.
 fn value_of<'a>(words: &'a [String], option: &str) -> Option<&'a str> {
     let mut is_next = false;
     for word in words {
@@ -37,7 +37,7 @@ fn reads_all(command: &str, words: &[String]) -> bool {
     }
 }
 
-// The file of the private key that a command with these words reads.
+// Returns the file of the private key that a command with these words reads.
 fn private_key<'a>(command: &str, words: &'a [String]) -> Option<&'a str> {
     match command {
         "build" | "append" | "serve" | "witness" => value_of(words, "--key"),
@@ -45,7 +45,7 @@ fn private_key<'a>(command: &str, words: &'a [String]) -> Option<&'a str> {
     }
 }
 
-// Reports whether others than its owner may read the file at a path.
+// Reports whether the file at a path may be read by others than its owner.
 fn is_open<H: Files>(rt: &H, path: &str) -> bool {
     match metadata(rt, path) {
         Ok(told) => told.is_file() && told.permissions().mode() & 0o077 != 0,
@@ -53,7 +53,7 @@ fn is_open<H: Files>(rt: &H, path: &str) -> bool {
     }
 }
 
-// Writes that others can read the private key in the file at a path.
+// Prints that others can read the private key in the file at a path.
 fn tell_open<E: Write>(path: &str, errors: &mut Counted<E>) {
     let _ = write_pieces(
         errors,
@@ -65,7 +65,7 @@ fn tell_open<E: Write>(path: &str, errors: &mut Counted<E>) {
     );
 }
 
-/// Writes to `errors` that the command of these words reads a terminal to its end, if it does and standard input is
+/// Prints to `errors` that the command of these words reads a terminal to its end, if it does and standard input is
 /// one, and that others can read the file of its private key, if they can.
 pub(crate) fn tell_before<H: Files, E: Write>(
     rt: &H,

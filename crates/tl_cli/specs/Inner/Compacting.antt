@@ -17,8 +17,8 @@ use Rattle.tl_serve.specs.declared.witness_fault.WitnessFault.TheVariants.{Run}
 abbrev pub IsLeftAlone : Passage → Appended → Appended → WitnessFault → Type 0
 IsLeftAlone p old new fault = (new ≡ old) × ((why : StateFault) × (fault ≡ Run (by_state why)) × RefusesState sha256 None p why)
 
--- Ok: one line of each origin of the state that was read, so many bytes in all, was put in the place of the file. Err: the
--- state isn't one; or such lines were to be put there, and it failed.
+-- Ok: one line of each origin of the state that was read replaced the file, with this many bytes in all. Err: the
+-- state isn't one, or replacing the file by such lines failed.
 abbrev pub CompactsFile : Passage → Appended → Appended → Result ℕ WitnessFault → Type 0
 CompactsFile p old new (Ok count) =
     (bytes : Bytes) × IsCompacted sha256 p bytes × (count ≡ length bytes) × (new.calls ≡ old.calls ++ done (replacing (new_path old.path) old.path bytes))

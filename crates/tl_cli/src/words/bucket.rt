@@ -8,10 +8,10 @@ use clap::ArgMatches;
 use std::alloc::Global;
 use tl_source::Url;
 
-// What is said where the address of a bucket is none.
+// The message if the address of a bucket isn't one.
 const NO_ADDRESS: &str = "--bucket is http://HOST[:PORT]/BUCKET[/PREFIX]";
 
-// What is said where a bucket is given in part.
+// The message if a bucket is given only in part.
 const OF_A_BUCKET: &str = "--region is given with --bucket, and --credentials with these alone";
 
 /// The words of a log in a bucket.
@@ -24,7 +24,7 @@ pub(super) const BUCKET: Group = Group {
     ],
 };
 
-// Whether this is the address of a bucket, or of what is under a prefix there. A slash may come behind it.
+// Reports whether this is the address of a bucket, or of a prefix in it. It may end with a slash.
 fn is_address(text: &str) -> bool {
     match Url::parse(text) {
         Some(url) => !url.prefix.ends_with("//"),
@@ -32,7 +32,7 @@ fn is_address(text: &str) -> bool {
     }
 }
 
-/// What is said where the words of a bucket don't go together, or name none.
+/// Returns the message if the words of a bucket don't go together, or its address isn't one.
 pub(super) fn bucket_refusal(options: &ArgMatches<'_>) -> Option<&'static str> {
     let Some(address) = options.get_str("bucket") else {
         let of_a_bucket = is_given(options, "region") || is_given(options, "credentials");
@@ -44,7 +44,7 @@ pub(super) fn bucket_refusal(options: &ArgMatches<'_>) -> Option<&'static str> {
     (!is_address(address)).then_some(NO_ADDRESS)
 }
 
-/// The bucket that is given.
+/// Returns the bucket that is given.
 pub(super) fn bucket_of(
     alloc: Global,
     options: &ArgMatches<'_>,

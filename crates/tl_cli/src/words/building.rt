@@ -1,4 +1,4 @@
-//! The words of the commands that build a log, as a mirror and in a folder.
+//! The words of the commands that build a log, as a mirror or in a folder.
 
 use super::bucket::{BUCKET, bucket_of, bucket_refusal};
 use super::given::{
@@ -14,20 +14,20 @@ use tl_append::AppendOptions;
 use tl_command::{BuildOptions, SignedOptions};
 use tl_run::LogKey;
 
-// What is said where a resource and a folder are given.
+// The message if both a resource and a folder are given.
 const ONE_OUTPUT: &str = "--get and --dir are not given together";
 
-// What is said where threads are asked for and a folder is given.
+// The message if both threads and a folder are given.
 const NO_THREADS: &str = "--threads and --dir are not given together";
 
-// What is said where not one place of a log is given.
+// The message if not exactly one place of a log is given.
 const EITHER_PLACE: &str = "either --dir or --bucket is given";
 
-// What is said where options of a folder are given with a bucket.
+// The message if options of a folder are given with a bucket.
 const OF_A_FOLDER: &str =
     "--get, --threads, --older and --keep-partials are not given with --bucket";
 
-// After how many entries a log in a bucket is published, where that isn't told.
+// After how many entries a log in a bucket is published if the options don't say.
 const BATCH: u64 = 65_536;
 
 /// The words of a log and its key.
@@ -58,7 +58,7 @@ const BUILD: Words = Words {
     ],
 };
 
-/// The words of `build`.
+/// Returns the words of `build`.
 pub(super) fn build() -> &'static Words {
     &BUILD
 }
@@ -84,12 +84,12 @@ const APPEND: Words = Words {
     ],
 };
 
-/// The words of `append`.
+/// Returns the words of `append`.
 pub(super) fn append() -> &'static Words {
     &APPEND
 }
 
-// How a log is appended to.
+// How entries are appended to a log.
 #[derive(Drop)]
 struct Appending {
     batch: Option<u64>,
@@ -98,7 +98,7 @@ struct Appending {
     keeps_partials: bool,
 }
 
-// The options of an append to the log at this place.
+// Returns the options of an append to the log at this place.
 fn append_options(
     alloc: Global,
     options: &ArgMatches<'_>,
@@ -124,7 +124,7 @@ fn append_options(
     })
 }
 
-// The job that appends to a log in a bucket. There partial tiles stay.
+// Returns the job that appends to a log in a bucket, where partial tiles are kept.
 fn append_to(
     alloc: Global,
     options: &ArgMatches<'_>,
@@ -142,7 +142,7 @@ fn append_to(
     Ok(Job::AppendTo(AppendToOptions { bucket, append }))
 }
 
-// What is said where words of `build` are given that don't go together.
+// Returns the message if the words of `build` don't go together.
 fn build_refusal(options: &ArgMatches<'_>) -> Option<&'static str> {
     let has_threads = options.get_one::<u16>("threads").is_some();
     let (has_get, has_dir) = (is_given(options, "get"), is_given(options, "dir"));
@@ -161,7 +161,7 @@ fn build_refusal(options: &ArgMatches<'_>) -> Option<&'static str> {
     }
 }
 
-// The job that prints a mirror.
+// Returns the job that prints a mirror.
 fn print_job(alloc: Global, options: &ArgMatches<'_>) -> Result<Job, WordsFault> {
     let threads = options.get_one::<u16>("threads");
     let get = text_if_given(alloc, options, "get")?;
@@ -182,7 +182,7 @@ fn print_job(alloc: Global, options: &ArgMatches<'_>) -> Result<Job, WordsFault>
     }
 }
 
-// The job of `build`: of the secret and the file of a key one is given, and not both a resource and a folder.
+// Returns the job of `build`: either the secret or the file of a key is given, and not both a resource and a folder.
 pub(super) fn build_job(alloc: Global, options: &ArgMatches<'_>) -> Result<Job, WordsFault> {
     if let Some(why) = build_refusal(options) {
         return Err(usage_error(alloc, build(), why));
@@ -202,7 +202,7 @@ pub(super) fn build_job(alloc: Global, options: &ArgMatches<'_>) -> Result<Job, 
     Ok(Job::Append(append_options(alloc, options, "dir", how)?))
 }
 
-// What is said where words of `append` are given that don't go together.
+// Returns the message if the words of `append` don't go together.
 fn append_refusal(options: &ArgMatches<'_>) -> Option<&'static str> {
     let of_a_folder = options.get_flag("older") || options.get_flag("keep-partials");
     if !has_log_key(options) {
@@ -218,7 +218,7 @@ fn append_refusal(options: &ArgMatches<'_>) -> Option<&'static str> {
     }
 }
 
-// The job of `append`, to a folder or to a bucket.
+// Returns the job of `append`, to a folder or to a bucket.
 pub(super) fn append_job(alloc: Global, options: &ArgMatches<'_>) -> Result<Job, WordsFault> {
     if let Some(why) = append_refusal(options) {
         return Err(usage_error(alloc, append(), why));

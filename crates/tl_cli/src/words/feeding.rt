@@ -9,7 +9,7 @@ use clap::ArgMatches;
 use std::alloc::Global;
 use tl_fetch::{FeedOptions, FetchRequest};
 
-// What is said where not each witness has its address.
+// The message if not each witness has its address.
 const PAIRS: &str =
     "--to is given once for each witness, once at least, in the order of their --witness";
 
@@ -39,18 +39,18 @@ const FEED: Words = Words {
     ],
 };
 
-/// The words of `feed`.
+/// Returns the words of `feed`.
 pub(super) fn feed() -> &'static Words {
     &FEED
 }
 
-// Whether the key of the text at this place has another name than the one before it.
+// Reports whether the key of the text at this place has another name than the one before it.
 fn is_next(texts: &[&str], place: usize) -> bool {
     let name = |place: usize| texts.get(place).map(|text| name_of(text));
     place == 0 || name(place) != name(place - 1)
 }
 
-// How many witnesses have the keys that are given, where those of one stand one after another.
+// Returns how many witnesses have the given keys; those of one witness follow one another.
 fn count_runs(options: &ArgMatches<'_>) -> usize {
     let Some(texts) = options.get_strs("witness") else {
         return 0;
@@ -60,7 +60,7 @@ fn count_runs(options: &ArgMatches<'_>) -> usize {
         .count()
 }
 
-// What is said where words of `feed` are given that don't go together.
+// Returns the message if the words of `feed` don't go together.
 fn feed_refusal(options: &ArgMatches<'_>) -> Option<&'static str> {
     let count = count_given(options, "to");
     if count == 0 || count != count_runs(options) {
@@ -69,7 +69,7 @@ fn feed_refusal(options: &ArgMatches<'_>) -> Option<&'static str> {
     log_refusal(options)
 }
 
-// The job of `feed`: each witness has its address, and no more must cosign than there are.
+// Returns the job of `feed`: each witness has its address, and no more have to cosign than there are.
 pub(super) fn feed_job(alloc: Global, options: &ArgMatches<'_>) -> Result<Job, WordsFault> {
     if let Some(why) = feed_refusal(options) {
         return Err(usage_error(alloc, feed(), why));

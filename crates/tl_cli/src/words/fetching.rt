@@ -8,14 +8,14 @@ use clap::ArgMatches;
 use std::alloc::{AllocError, Global};
 use tl_fetch::{FetchOptions, FetchRequest};
 
-// What is said where not one of the four is given.
+// The message if not exactly one of the four requests is given.
 const ONE_WANTED: &str =
     "one of --head, --index, --all and --prove is given, and --raw with --index alone";
 
-/// What is said where more cosignatures are needed than there are witnesses.
+/// The message if more cosignatures are needed than there are witnesses.
 pub(super) const FEWER: &str = "--need is at most the number of witnesses";
 
-// What is said if a witness must have cosigned lately, and none is given.
+// The message if a witness must have cosigned lately, and none is given.
 const FRESH_OF_NOBODY: &str = "--fresh is given with --witness alone";
 
 /// The help of the option that says where a log is read from.
@@ -63,12 +63,13 @@ const FETCH: Words = Words {
     ],
 };
 
-/// The words of `fetch`.
+/// Returns the words of `fetch`.
 pub(super) fn fetch() -> &'static Words {
     &FETCH
 }
 
-// What is wanted: none unless one of the four is given, and an entry's bytes alone only of an entry.
+// Returns what is asked for, or None unless exactly one of the four requests is given, and `--raw` only with an
+// entry.
 fn wanted_if_one(options: &ArgMatches<'_>) -> Option<FetchRequest> {
     let index = options.get_one::<u64>("index");
     let proof = options.get_one::<u64>("prove");
@@ -83,18 +84,18 @@ fn wanted_if_one(options: &ArgMatches<'_>) -> Option<FetchRequest> {
     }
 }
 
-// What is said where a log is told to have more keys.
+// The message if more than two keys of a log are given.
 const TWO_KEYS: &str = "--key is given once or twice";
 
 // The texts of a log's keys.
 #[derive(Drop)]
 struct LogKeyTexts {
     key: String,
-    // That of another one, if there are two.
+    // The text of another key, if there are two.
     other_key: Option<String>,
 }
 
-// The text of the log's other key, if there are two.
+// Returns the text of the log's other key, if there are two.
 fn other_key(alloc: Global, options: &ArgMatches<'_>) -> Result<Option<String>, AllocError> {
     let Some(texts) = options.get_strs("key") else {
         return Ok(None);
@@ -105,14 +106,14 @@ fn other_key(alloc: Global, options: &ArgMatches<'_>) -> Result<Option<String>, 
     }
 }
 
-// The texts of the log's keys, of which it is known that they are one or two.
+// Returns the texts of the log's keys, which are known to be one or two.
 fn log_keys(alloc: Global, options: &ArgMatches<'_>) -> Result<LogKeyTexts, WordsFault> {
     let other_key = other_key(alloc, options)?;
     let key = text_of(alloc, options, "key")?;
     Ok(LogKeyTexts { key, other_key })
 }
 
-/// The name that the text of a verifier key begins with.
+/// Returns the name that the text of a verifier key begins with.
 pub(super) fn name_of(text: &str) -> &str {
     match text.find('+') {
         Some(end) => &text[..end],
@@ -120,7 +121,7 @@ pub(super) fn name_of(text: &str) -> &str {
     }
 }
 
-// Whether none of the texts before this place is of a key with the name of the one there.
+// Reports whether no text before this place is of a key with the name of the one there.
 fn is_new(texts: &[&str], place: usize) -> bool {
     let (before, behind) = texts.split_at(place.min(texts.len()));
     let Some(text) = behind.first() else {
@@ -130,7 +131,7 @@ fn is_new(texts: &[&str], place: usize) -> bool {
     !before.iter().any(|earlier| name_of(earlier) == name)
 }
 
-// How many witnesses have the keys that are given: those with one name are one's.
+// Returns how many witnesses have the given keys; keys with one name are one witness's.
 fn count_witnesses(options: &ArgMatches<'_>) -> u64 {
     let Some(texts) = options.get_strs("witness") else {
         return 0;
@@ -139,7 +140,7 @@ fn count_witnesses(options: &ArgMatches<'_>) -> u64 {
     places.filter(|place| is_new(texts, *place)).count() as u64
 }
 
-// How many of the witnesses must have cosigned: all, unless a number is given.
+// Returns how many of the witnesses must have cosigned: all, unless a number is given.
 fn need_of(options: &ArgMatches<'_>) -> u64 {
     match options.get_one::<u64>("need") {
         Some(need) => need,
@@ -147,8 +148,8 @@ fn need_of(options: &ArgMatches<'_>) -> u64 {
     }
 }
 
-/// What is said if the keys of a log are more than two, more of its witnesses must have cosigned than there are, or one
-/// must have lately and none is given.
+/// Returns the message if a log has more than two keys, if more of its witnesses must have cosigned than there are,
+/// or if one must have lately and none is given.
 pub(super) fn log_refusal(options: &ArgMatches<'_>) -> Option<&'static str> {
     if count_given(options, "key") > 2 {
         return Some(TWO_KEYS);
@@ -160,21 +161,21 @@ pub(super) fn log_refusal(options: &ArgMatches<'_>) -> Option<&'static str> {
     (need_of(options) > all).then_some(FEWER)
 }
 
-// The files of who fetches.
+// The files of the reader of a log.
 #[derive(Drop)]
 struct OwnFiles {
     state: Option<String>,
     cache: Option<String>,
 }
 
-// The files of who fetches, as they are given.
+// Returns the files of the reader of a log, as they are given.
 fn own_files(alloc: Global, options: &ArgMatches<'_>) -> Result<OwnFiles, AllocError> {
     let state = text_if_given(alloc, options, "state")?;
     let cache = text_if_given(alloc, options, "cache")?;
     Ok(OwnFiles { state, cache })
 }
 
-/// The options of `fetch`, whose words go together.
+/// Returns the options of `fetch`, whose words go together.
 pub(super) fn fetch_options(
     alloc: Global,
     options: &ArgMatches<'_>,
@@ -198,7 +199,8 @@ pub(super) fn fetch_options(
     })
 }
 
-// The job of `fetch`: one of the four is given, and no more cosignatures are needed than there are witnesses.
+// Returns the job of `fetch`: one of the four requests is given, and no more cosignatures are needed than there are
+// witnesses.
 pub(super) fn fetch_job(alloc: Global, options: &ArgMatches<'_>) -> Result<Job, WordsFault> {
     let Some(wanted) = wanted_if_one(options) else {
         return Err(usage_error(alloc, fetch(), ONE_WANTED));

@@ -1,4 +1,4 @@
-//! What was given of the words of a command.
+//! What was given for the words of a command.
 
 use super::table::{Words, command_named};
 use super::{WordsFault, fault_of};
@@ -7,12 +7,12 @@ use clap::error::ErrorKind;
 use std::alloc::{AllocError, Global};
 use tl_run::LogKey;
 
-/// The fault where a word isn't there, though the command line was understood: without a text.
+/// Returns the fault of a word that is lacking although the command line was understood. It has no text.
 pub(super) fn no_word(alloc: Global) -> WordsFault {
     WordsFault::Usage(String::new(alloc))
 }
 
-/// The fault of words that don't go together, with the usage of their command.
+/// Returns the fault of words that don't go together, with the usage of their command.
 pub(super) fn usage_error(alloc: Global, row: &Words, why: &str) -> WordsFault {
     let Ok(name) = format!(in alloc; "tlog {}", row.name) else {
         return WordsFault::OutOfMemory;
@@ -26,7 +26,7 @@ pub(super) fn usage_error(alloc: Global, row: &Words, why: &str) -> WordsFault {
     }
 }
 
-/// The text behind a word that has to be given.
+/// Returns the text of a word that has to be given.
 pub(super) fn text_of(
     alloc: Global,
     options: &ArgMatches<'_>,
@@ -38,7 +38,7 @@ pub(super) fn text_of(
     Ok(String::from_str(alloc, text)?)
 }
 
-/// The text behind a word that may be left out.
+/// Returns the text of a word, if it is given.
 pub(super) fn text_if_given(
     alloc: Global,
     options: &ArgMatches<'_>,
@@ -50,7 +50,7 @@ pub(super) fn text_if_given(
     }
 }
 
-/// How many texts stand behind a word that may be given several times.
+/// Returns how many texts are given for a word that may be given several times.
 pub(super) fn count_given(options: &ArgMatches<'_>, name: &str) -> usize {
     match options.get_strs(name) {
         Some(texts) => texts.len(),
@@ -58,7 +58,7 @@ pub(super) fn count_given(options: &ArgMatches<'_>, name: &str) -> usize {
     }
 }
 
-/// The texts behind a word that may be given several times, in order.
+/// Returns the texts of a word that may be given several times, in order.
 pub(super) fn texts_of(
     alloc: Global,
     options: &ArgMatches<'_>,
@@ -74,7 +74,7 @@ pub(super) fn texts_of(
     Ok(given)
 }
 
-/// The number behind a word that has to be given.
+/// Returns the number of a word that has to be given.
 pub(super) fn number_of(
     alloc: Global,
     options: &ArgMatches<'_>,
@@ -86,12 +86,12 @@ pub(super) fn number_of(
     }
 }
 
-/// Whether a text stands behind this word.
+/// Reports whether a text is given for this word.
 pub(super) fn is_given(options: &ArgMatches<'_>, name: &str) -> bool {
     options.get_str(name).is_some()
 }
 
-/// Whether either the secret of a log's key or its file is given.
+/// Reports whether either the secret of a log's key or its file is given.
 pub(super) fn has_log_key(options: &ArgMatches<'_>) -> bool {
     is_given(options, "secret") != is_given(options, "key")
 }
@@ -103,7 +103,7 @@ pub(super) struct NamedLog {
     pub(super) key: LogKey,
 }
 
-// The key of a log: that of the secret, where it is given, and else the one in the file.
+// Returns the key of a log: that of the secret, if one is given, else that in the file.
 fn log_key(alloc: Global, options: &ArgMatches<'_>) -> Result<LogKey, WordsFault> {
     if is_given(options, "secret") {
         return Ok(LogKey::Secret(text_of(alloc, options, "secret")?));
@@ -111,7 +111,7 @@ fn log_key(alloc: Global, options: &ArgMatches<'_>) -> Result<LogKey, WordsFault
     Ok(LogKey::File(text_of(alloc, options, "key")?))
 }
 
-/// The log that the words name, of which it is known that a key is given.
+/// Returns the log that the words name; a key is known to be given.
 pub(super) fn named_log(alloc: Global, options: &ArgMatches<'_>) -> Result<NamedLog, WordsFault> {
     let key = log_key(alloc, options)?;
     let origin = text_of(alloc, options, "origin")?;

@@ -25,7 +25,7 @@ pub(super) const SERVER: Group = Group {
     ],
 };
 
-/// What is given of the words that the servers share.
+/// Returns what is given for the words that the servers share.
 pub(super) fn listen_options(
     alloc: Global,
     options: &ArgMatches<'_>,

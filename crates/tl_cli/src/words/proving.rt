@@ -8,10 +8,10 @@ use clap::ArgMatches;
 use std::alloc::Global;
 use tl_command::{CheckOptions, GivenEntry, KeygenOptions};
 
-// What is said where not all are given that belong together.
+// The message if options that belong together aren't all given.
 const TOGETHER: &str = "--checkpoint and --key are given together, and an entry with them";
 
-// What is said where more than one thing is to be checked.
+// The message if more than one thing is to be checked.
 const ONE_CHECK: &str = "--fork is given alone, and one of --entry and --entry-file";
 
 const HEAD: Words = Words {
@@ -27,7 +27,7 @@ const HEAD: Words = Words {
     }],
 };
 
-/// The words of `head`.
+/// Returns the words of `head`.
 pub(super) fn head() -> &'static Words {
     &HEAD
 }
@@ -45,7 +45,7 @@ const INCLUSION: Words = Words {
     }],
 };
 
-/// The words of `inclusion`.
+/// Returns the words of `inclusion`.
 pub(super) fn inclusion() -> &'static Words {
     &INCLUSION
 }
@@ -63,7 +63,7 @@ const CONSISTENCY: Words = Words {
     }],
 };
 
-/// The words of `consistency`.
+/// Returns the words of `consistency`.
 pub(super) fn consistency() -> &'static Words {
     &CONSISTENCY
 }
@@ -91,7 +91,7 @@ const CHECK: Words = Words {
     ],
 };
 
-/// The words of `check`.
+/// Returns the words of `check`.
 pub(super) fn check() -> &'static Words {
     &CHECK
 }
@@ -110,7 +110,7 @@ const KEYGEN: Words = Words {
     }],
 };
 
-/// The words of `keygen`.
+/// Returns the words of `keygen`.
 pub(super) fn keygen() -> &'static Words {
     &KEYGEN
 }
@@ -130,7 +130,7 @@ const OPEN: Words = Words {
     }],
 };
 
-/// The words of `open`.
+/// Returns the words of `open`.
 pub(super) fn open() -> &'static Words {
     &OPEN
 }
@@ -142,12 +142,12 @@ const AUDIT: Words = Words {
     groups: &[],
 };
 
-/// The words of `audit`.
+/// Returns the words of `audit`.
 pub(super) fn audit() -> &'static Words {
     &AUDIT
 }
 
-// What is said if words of `check` are given that don't go together.
+// Returns the message if the words of `check` don't go together.
 fn checking_refusal(options: &ArgMatches<'_>) -> Option<&'static str> {
     let has = |name| is_given(options, name);
     let has_entry = has("entry") || has("entry-file");
@@ -162,7 +162,7 @@ fn checking_refusal(options: &ArgMatches<'_>) -> Option<&'static str> {
     None
 }
 
-// The entry that is given, if one is.
+// Returns the entry that is given, if one is.
 fn given_entry(alloc: Global, options: &ArgMatches<'_>) -> Result<Option<GivenEntry>, WordsFault> {
     if is_given(options, "entry") {
         return Ok(Some(GivenEntry::Text(text_of(alloc, options, "entry")?)));
@@ -173,8 +173,8 @@ fn given_entry(alloc: Global, options: &ArgMatches<'_>) -> Result<Option<GivenEn
     Ok(None)
 }
 
-/// The job of `check`: evidence is checked by the key alone; else the checkpoint and the key are given both or not, and
-/// an entry with them.
+/// Returns the job of `check`: evidence is checked by the key alone; otherwise the checkpoint and the key are both
+/// given or both not, and an entry only with them.
 pub(super) fn checking_job(alloc: Global, options: &ArgMatches<'_>) -> Result<Job, WordsFault> {
     if let Some(why) = checking_refusal(options) {
         return Err(usage_error(alloc, check(), why));
@@ -194,7 +194,7 @@ pub(super) fn checking_job(alloc: Global, options: &ArgMatches<'_>) -> Result<Jo
     }))
 }
 
-/// The job of `keygen`: into the standard streams, or into two files.
+/// Returns the job of `keygen`: into the standard streams, or into two files.
 pub(super) fn keygen_job(alloc: Global, options: &ArgMatches<'_>) -> Result<Job, WordsFault> {
     let key = KeygenOptions {
         name: text_of(alloc, options, "name")?,

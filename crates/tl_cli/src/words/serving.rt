@@ -15,41 +15,41 @@ use clap::ArgMatches;
 use std::alloc::{AllocError, Global};
 use tl_serve::{AskedWitness, ServeOptions};
 
-// What an option is where it is left out.
+// What an option is if it isn't given.
 const LANES: u64 = 1;
 
 const CAPACITY: u64 = 256;
 
 const BATCH: u64 = 256;
 
-// What is said where a note and a folder are given.
+// The message if both a note and a folder are given.
 const ONE_BASE: &str = "--note and --dir are not given together";
 
-// What is said where options of a log in a folder are given, and no folder.
+// The message if options of a log in a folder are given without a folder.
 const OF_A_FOLDER: &str = "--older, --keep-partials and --witness are given with --dir alone";
 
-// What is said where a bucket is given beside a note or a folder.
+// The message if a bucket is given with a note or a folder.
 const ONE_PLACE: &str = "--note, --dir and --bucket are not given together";
 
-// What is said where a witness is given without its key or its address.
+// The message if a witness is given without its key or its address.
 const NO_PAIR: &str = "--witness is VKEY=http://HOST[:PORT][/PATH]";
 
-// What is said where it is told how many must cosign, and nobody may, or where nobody need.
+// The message if a number of cosignatures is given without a witness, or is 0.
 const OF_WITNESSES: &str = "--need is given with --witness alone, and at least 1";
 
-// What is said where an interval is given, and no entries come while the log is served.
+// The message if an interval is given, and no entries come while the log is served.
 const OF_WHAT_COMES: &str = "--interval is given with --follow or --add alone";
 
-// What is said where it is told how many entries are remembered, and none are posted.
+// The message if a number of remembered entries is given, and none are posted.
 const OF_POSTS: &str = "--remember is given with --add alone";
 
-// How many entries are remembered, where that isn't told.
+// How many entries are remembered if the options don't say.
 const REMEMBER: u64 = 65_536;
 
-// How many milliseconds entries wait for more where they are posted, and no interval is given.
+// How many milliseconds posted entries wait for more if no interval is given.
 const INTERVAL: u64 = 1000;
 
-// What is said where a log begins that is neither in a folder nor in a bucket.
+// The message if a log begins that is neither in a folder nor in a bucket.
 const OF_A_PLACE: &str = "--new is given with --dir or --bucket alone";
 
 const SERVE: Words = Words {
@@ -97,12 +97,12 @@ const SERVE: Words = Words {
     ],
 };
 
-/// The words of `serve`.
+/// Returns the words of `serve`.
 pub(super) fn serve() -> &'static Words {
     &SERVE
 }
 
-// What is said where words of what comes while a log is served are given, and nothing comes.
+// Returns the message if words on entries that come while a log is served are given, and none come.
 fn coming_refusal(options: &ArgMatches<'_>) -> Option<&'static str> {
     let takes_posts = options.get_flag("add");
     let has_interval = options.get_one::<u64>("interval").is_some();
@@ -113,7 +113,7 @@ fn coming_refusal(options: &ArgMatches<'_>) -> Option<&'static str> {
     (has_remember && !takes_posts).then_some(OF_POSTS)
 }
 
-// Whether each text names a witness: its key, and behind a `=` its address.
+// Reports whether each text names a witness: its key, and behind a `=` its address.
 fn are_pairs(options: &ArgMatches<'_>) -> bool {
     match options.get_strs("witness") {
         Some(texts) => texts.iter().all(|text| text.find("=http://").is_some()),
@@ -121,7 +121,7 @@ fn are_pairs(options: &ArgMatches<'_>) -> bool {
     }
 }
 
-// The witness that a text names.
+// Returns the witness that a text names.
 fn asked_of(alloc: Global, text: &str) -> Result<AskedWitness, WordsFault> {
     let Some(end) = text.find("=http://") else {
         return Err(no_word(alloc));
@@ -132,7 +132,7 @@ fn asked_of(alloc: Global, text: &str) -> Result<AskedWitness, WordsFault> {
     })
 }
 
-// The witnesses that are asked.
+// Returns the witnesses that are asked.
 fn all_asked(alloc: Global, options: &ArgMatches<'_>) -> Result<Vec<AskedWitness>, WordsFault> {
     let mut asked = Vec::new(alloc);
     let Some(texts) = options.get_strs("witness") else {
@@ -147,7 +147,7 @@ fn all_asked(alloc: Global, options: &ArgMatches<'_>) -> Result<Vec<AskedWitness
     Ok(asked)
 }
 
-// How many of the witnesses must have cosigned what is shown: all, unless a number is given.
+// Returns how many of the witnesses must have cosigned what is shown: all, unless a number is given.
 fn must_cosign(options: &ArgMatches<'_>) -> u64 {
     match options.get_one::<u64>("need") {
         Some(need) => need,
@@ -155,7 +155,7 @@ fn must_cosign(options: &ArgMatches<'_>) -> u64 {
     }
 }
 
-// What is said where no witness is named by what is given, or so many need not cosign.
+// Returns the message if a text names no witness, or the number of cosignatures doesn't fit the witnesses.
 fn witness_refusal(options: &ArgMatches<'_>) -> Option<&'static str> {
     if !are_pairs(options) {
         return Some(NO_PAIR);
@@ -168,7 +168,7 @@ fn witness_refusal(options: &ArgMatches<'_>) -> Option<&'static str> {
     (is_told && (need == 0 || all == 0)).then_some(OF_WITNESSES)
 }
 
-// What is said where the places of a log don't go together, or what is of a folder is given without one.
+// Returns the message if the places of a log don't go together, or options of a folder are given without one.
 fn place_refusal(options: &ArgMatches<'_>) -> Option<&'static str> {
     let (has_note, has_dir) = (is_given(options, "note"), is_given(options, "dir"));
     let of_a_folder = options.get_flag("older") || options.get_flag("keep-partials");
@@ -188,7 +188,7 @@ fn place_refusal(options: &ArgMatches<'_>) -> Option<&'static str> {
     (!has_dir && (of_a_folder || has_witness)).then_some(OF_A_FOLDER)
 }
 
-// What is said where words of `serve` are given that don't go together.
+// Returns the message if the words of `serve` don't go together.
 fn serve_refusal(options: &ArgMatches<'_>) -> Option<&'static str> {
     if !has_log_key(options) {
         return Some(EITHER_KEY);
@@ -198,20 +198,21 @@ fn serve_refusal(options: &ArgMatches<'_>) -> Option<&'static str> {
         .or(witness_refusal(options))
 }
 
-// Where a log outlasts its server: in its bucket, or else in its folder, if one is given.
+// Returns the place in which a log outlasts its server: its bucket, or else its folder, if one is given.
 fn place_of(alloc: Global, options: &ArgMatches<'_>) -> Result<Option<String>, AllocError> {
     let is_in_bucket = is_given(options, "bucket");
     let word = if is_in_bucket { "bucket" } else { "dir" };
     text_if_given(alloc, options, word)
 }
 
-// Whether lines are published as they come: so they are where entries are posted, unless several lanes are asked for.
+// Reports whether lines are published as they come. If entries are posted they are, unless several lanes are asked
+// for.
 fn is_followed(options: &ArgMatches<'_>) -> bool {
     let has_one_lane = options.get_one::<u64>("lanes").unwrap_or(LANES) == 1;
     options.get_flag("follow") || (options.get_flag("add") && has_one_lane)
 }
 
-// The options of `serve`, whose words go together.
+// Returns the options of `serve`, whose words go together.
 fn serve_options(alloc: Global, options: &ArgMatches<'_>) -> Result<ServeOptions, WordsFault> {
     let takes_posts = options.get_flag("add");
     let unless_given = if takes_posts { INTERVAL } else { 0 };
@@ -237,7 +238,7 @@ fn serve_options(alloc: Global, options: &ArgMatches<'_>) -> Result<ServeOptions
     })
 }
 
-// The job of `serve`: not both a note and a folder are given, and what is of a folder with one alone.
+// Returns the job of `serve`: a note and a folder aren't both given, and options of a folder only with one.
 pub(super) fn serve_job(alloc: Global, options: &ArgMatches<'_>) -> Result<Job, WordsFault> {
     if let Some(why) = serve_refusal(options) {
         return Err(usage_error(alloc, serve(), why));

@@ -1,10 +1,10 @@
-//! Tables of the words that commands take, and the commands of `clap` that are made of them.
+//! Tables of the words that commands take, and the commands of `clap` made of them.
 
 use clap::builder::ValueParser;
 use clap::{Arg, ArgAction, Command};
 use std::alloc::{AllocError, Global};
 
-/// What stands behind a word.
+/// What a word takes as its value.
 #[derive(Clone, Copy)]
 pub(super) enum Kind {
     /// Nothing.
@@ -19,9 +19,9 @@ pub(super) enum Kind {
     RequiredTexts,
     /// The path of a file or a folder, a text that isn't empty.
     Path,
-    /// Such a path; the word has to be given.
+    /// A path; the word has to be given.
     RequiredPath,
-    /// A number that isn't below the first and not above the second.
+    /// A number that isn't below the first or above the second.
     Number(u64, u64),
     /// A number; the word has to be given.
     RequiredNumber,
@@ -31,7 +31,7 @@ pub(super) enum Kind {
     Few,
 }
 
-/// A word of a command, which stands behind two hyphens.
+/// A word of a command, which is given behind two hyphens.
 pub(super) struct Word {
     pub(super) name: &'static str,
     /// What help calls the value.
@@ -40,7 +40,7 @@ pub(super) struct Word {
     pub(super) help: &'static str,
 }
 
-/// The words of a subject, under the heading that help has for them, or with all others if that is empty.
+/// The words of a subject, listed by help under this heading, or with all others if it is empty.
 pub(super) struct Group {
     pub(super) heading: &'static str,
     pub(super) words: &'static [Word],
@@ -54,7 +54,7 @@ pub(super) struct Words {
     pub(super) groups: &'static [Group],
 }
 
-// Whether a word has to be given.
+// Reports whether a word has to be given.
 fn is_required(kind: Kind) -> bool {
     matches!(
         kind,
@@ -62,7 +62,7 @@ fn is_required(kind: Kind) -> bool {
     )
 }
 
-// What is done with a word where it is given.
+// Returns what is done with a word that is given.
 fn action_of(kind: Kind) -> ArgAction {
     match kind {
         Kind::Flag => ArgAction::SetTrue,
@@ -71,7 +71,7 @@ fn action_of(kind: Kind) -> ArgAction {
     }
 }
 
-// The parser of what stands behind a word.
+// Returns the parser of a word's value.
 fn parser_of<'a>(kind: Kind) -> ValueParser<'a> {
     match kind {
         Kind::Path | Kind::RequiredPath => ValueParser::NonEmptyString,
@@ -83,7 +83,7 @@ fn parser_of<'a>(kind: Kind) -> ValueParser<'a> {
     }
 }
 
-// A word as an argument.
+// Returns a word as an argument.
 fn argument<'a>(alloc: Global, heading: &'static str, word: &Word) -> Arg<'a> {
     let arg = Arg::new(alloc, word.name);
     let arg = if heading.is_empty() {
@@ -103,7 +103,7 @@ fn argument<'a>(alloc: Global, heading: &'static str, word: &Word) -> Arg<'a> {
         .required(is_required(word.kind))
 }
 
-// The command with the words of a group, too.
+// Returns the command with the words of a group added.
 fn with_group<'a>(
     alloc: Global,
     command: Command<'a>,
@@ -116,7 +116,7 @@ fn with_group<'a>(
     Ok(command)
 }
 
-/// A command with all its words, under this name.
+/// Returns a command with all its words, under this name.
 pub(super) fn command_named<'a>(
     alloc: Global,
     name: &'a str,
@@ -131,7 +131,7 @@ pub(super) fn command_named<'a>(
     Ok(command)
 }
 
-/// A command with all its words.
+/// Returns a command with all its words.
 pub(super) fn command_of<'a>(alloc: Global, row: &Words) -> Result<Command<'a>, AllocError> {
     command_named(alloc, row.name, row)
 }

@@ -1,4 +1,4 @@
-//! What the program prints about its commands when it is called for help, in at most 80 columns.
+//! What the program prints about its commands for help, in at most 80 columns.
 
 pub(super) const STATUSES: &str =
     "'tlog help COMMAND' prints what a command reads and prints, and an example.

@@ -9,19 +9,19 @@ use clap::ArgMatches;
 use std::alloc::{AllocError, Global};
 use tl_serve::{KnownLogs, LogVerifierKey, WitnessOptions, WitnessSignerKey};
 
-// What is said where not one key of the log is given to a witness.
+// The message if not exactly one key of the log is given to a witness.
 const ONE_LOG_KEY: &str = "either --secret or --log-key is given";
 
-// What is said where neither one log is given to a witness nor a file of logs.
+// The message if neither one log nor a file of logs is given to a witness.
 const ONE_OR_MANY: &str = "either --origin, with one key of the log, or --logs is given";
 
-// What is said where not one key of the witness is given.
+// The message if not exactly one key of the witness is given.
 const ONE_WITNESS_KEY: &str = "either --name and --witness-secret or --key is given";
 
-// What is said where a state is to be compacted, and none is given.
+// The message if a state is to begin or to be compacted, and none is given.
 const OF_A_STATE: &str = "--new and --compact are given with --state alone";
 
-// What is said where a state begins and is to be compacted.
+// The message if a state is both to begin and to be compacted.
 const NOTHING_TO_COMPACT: &str = "--new and --compact are not given together";
 
 const WITNESS: Words = Words {
@@ -56,18 +56,19 @@ const WITNESS: Words = Words {
     ],
 };
 
-/// The words of `witness`.
+/// Returns the words of `witness`.
 pub(super) fn witness() -> &'static Words {
     &WITNESS
 }
 
-// The one log that a witness knows, by its key.
+// Returns the one log that a witness knows, by its key.
 fn one_log(alloc: Global, origin: &str, key: LogVerifierKey) -> Result<KnownLogs, AllocError> {
     let origin = String::from_str(alloc, origin)?;
     Ok(KnownLogs::One(origin, key))
 }
 
-// The logs that a witness knows: one by its name, and of the secret and the text of its key one; or those of a file.
+// Returns the logs that a witness knows: one by its name and either its secret or the text of its key, or those of a
+// file.
 fn known_logs(alloc: Global, options: &ArgMatches<'_>) -> Result<KnownLogs, WordsFault> {
     let (origin, file) = (options.get_str("origin"), options.get_str("logs"));
     match (
@@ -90,7 +91,7 @@ fn known_logs(alloc: Global, options: &ArgMatches<'_>) -> Result<KnownLogs, Word
     }
 }
 
-// The key of a witness: a name and its secret, or a file.
+// Returns the key of a witness: a name and its secret, or a file.
 fn cosigner_key(alloc: Global, options: &ArgMatches<'_>) -> Result<WitnessSignerKey, WordsFault> {
     let (name, secret) = (options.get_str("name"), options.get_str("witness-secret"));
     match (name, secret, options.get_str("key")) {
@@ -103,7 +104,7 @@ fn cosigner_key(alloc: Global, options: &ArgMatches<'_>) -> Result<WitnessSigner
     }
 }
 
-// What is said where words of a witness's state don't go together.
+// Returns the message if the words of a witness's state don't go together.
 fn state_refusal(options: &ArgMatches<'_>) -> Option<&'static str> {
     let (is_new, compacts) = (options.get_flag("new"), options.get_flag("compact"));
     if (is_new || compacts) && !is_given(options, "state") {
@@ -112,7 +113,7 @@ fn state_refusal(options: &ArgMatches<'_>) -> Option<&'static str> {
     (is_new && compacts).then_some(NOTHING_TO_COMPACT)
 }
 
-// The job of `witness`: a state that begins or is compacted is given.
+// Returns the job of `witness`: a state is given if one begins or is compacted.
 pub(super) fn witness_job(alloc: Global, options: &ArgMatches<'_>) -> Result<Job, WordsFault> {
     if let Some(why) = state_refusal(options) {
         return Err(usage_error(alloc, witness(), why));

@@ -9,13 +9,13 @@ use Rattle.tl_run.specs.declared.fault.RunFault.TheVariants.{Malformed, OutOfMem
 use Rattle.tl_command.specs.AuditCommand.{IsAccepted, AuditRefuses, IsAuditOf}
 use Rattle.tl_hash.specs.Bytes.{Bytes, Digest}
 
--- what is answered of an audit: that the new list extends the old one, or that the answer is no
+-- the answer to an audit: the new list extends the old one, or the answer is no
 abbrev pub AnswersAudit : {A : Type 0} → Digest → Audit → Answer A → Type 0
 AnswersAudit H a answer =
     ((answer.yes ≡ true) × IsAccepted H a × IsPrefix a.old a.new × (vec_items answer.text ≡ line (codes "extends")))
     ⊎ ((answer.yes ≡ false) × AuditRefuses H a (vec_items answer.text))
 
--- what is answered to a text: an answer of its audit, or that it is no audit's
+-- the answer to a text: that to its audit, or that it is no audit's text
 abbrev pub AnswersAuditText : {A : Type 0} → Digest → Bytes → Result (Answer A) RunFault → Type 0
 AnswersAuditText H text (Ok answer) = IsAuditOf (λ a. AnswersAudit H a answer) text
 AnswersAuditText H text (Err Malformed) = (a : Audit) → IsAudit a → text ≢ audit_text a

@@ -11,28 +11,28 @@ use Rattle.tl_command.specs.declared.commands.check.Finding.{Finding}
 use Rattle.tl_run.specs.declared.fault.RunFault.{RunFault}
 use Rattle.tl_run.specs.declared.fault.RunFault.TheVariants.{Refused, Write, Malformed, OutOfMemory}
 
--- what is found says whether the proof is accepted, and what it is about
+-- the finding says whether the proof is accepted, and what it is about
 pub record IsFinding (p : Proof) (c : Finding) : Type 0 where
   pub says : IsTrue c.accepted ↔ Accepts sha256 p
   pub size : c.size ≡ proof_size p
   pub root : c.root ≡ proof_root p
   pub leaf : c.leaf ≡ proof_leaf p
 
--- the lines are those of a proof, of which this is found
+-- the lines are those of a proof with this finding
 pub record HasFinding (lines : List Bytes) (c : Finding) : Type 0 where
   pub proof : Proof
   pub lawful : IsProof proof
   pub spelled : lines ≡ proof_lines proof
   pub finding : IsFinding proof c
 
--- what is found in a text: what its proof says, or that it is no proof's
+-- the finding in a text: that of its proof, or that it is no proof's text
 abbrev pub FindsInText : Bytes → Result Finding RunFault → Type 0
 FindsInText text (Ok c) = HasFinding (entries_of text) c × (text ≡ lines_text (entries_of text))
 FindsInText text (Err Malformed) = (p : Proof) → IsProof p → text ≢ proof_text p
 FindsInText text (Err OutOfMemory) = 0 < length text
 FindsInText text (Err fault) = ⊥
 
--- what was found is accepted and about the subject
+-- the finding is that of an accepted proof about the subject
 abbrev pub IsFindingAbout : Subject → Finding → Type 0
 IsFindingAbout s c = IsTrue c.accepted × AreOf s c.size c.root c.leaf
 
@@ -41,7 +41,7 @@ abbrev pub answer_line : Bool → Bytes
 answer_line true = line (codes "accepted")
 answer_line false = line (codes "refused")
 
--- printing it
+-- printing the line that says whether a proof is good
 abbrev pub PrintsAnswer : Bool → Passage → Result (Unit {0}) RunFault → Type 0
 PrintsAnswer is_good o (Ok done) = (is_good ≡ true) × WroteWhole o (answer_line is_good)
 PrintsAnswer is_good o (Err Refused) = (is_good ≡ false) × WroteWhole o (answer_line is_good)

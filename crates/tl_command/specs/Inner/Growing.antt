@@ -1,4 +1,4 @@
--- The log of an input's lines while the input is read: words of the private clauses of the command `head`.
+-- The log of an input's lines while the input is read, for the private contracts of the command `head`.
 use Rattle.std.specs.Prelude.{◌≡◌, ◌%◌, List, [], ◌++◌, take, All, MatchOption, false, None, Some, Result, Ok, Err, vec_items}
 use Rattle.sha2.specs.Sha256.{sha256}
 use Rattle.tl_hash.specs.Bytes.{Bytes}
@@ -11,12 +11,12 @@ use Rattle.tl_command.specs.declared.growing.Growing.{Growing}
 use Rattle.tl_run.specs.declared.fault.RunFault.{RunFault}
 use Rattle.tl_run.specs.declared.fault.RunFault.TheVariants.{Read, TooLarge, EntryTooLong, OutOfMemory}
 
--- the edge is that of the lines, or the place of the first that is too long is noted
+-- the edge is that of the lines, or the index of the first line that is too long is noted
 abbrev pub IsTold : {A : Type 0} → Growing A → List Bytes → Type 0
 IsTold g lines = MatchOption g.too_long ((first_too_long lines ≡ None) × IsEdgeOf g.edge sha256 lines) (λ place. first_too_long lines ≡ Some place)
 
--- the input so far is whole lines and the beginning of one more, of which no more is kept than tells that it is too
--- long; the edge is that of the lines, unless one of them is too long
+-- the input so far is whole lines and the beginning of one more, of which only as much is kept as shows that it is
+-- too long; the edge is that of the whole lines, unless one of them is too long
 pub record IsGrowing {A : Type 0} (g : Growing A) (input : Bytes) : Type 0 where
   pub lines : List Bytes
   pub last : Bytes
@@ -26,25 +26,25 @@ pub record IsGrowing {A : Type 0} (g : Growing A) (input : Bytes) : Type 0 where
   pub kept : vec_items g.line ≡ take 65536 last
   pub told : IsTold g lines
 
--- all that is kept are whole tiles of 256 lines: no line is begun, and none was too long
+-- the state is whole tiles of 256 lines: no line is begun, and none was too long
 pub record FillsTiles {A : Type 0} (g : Growing A) : Type 0 where
   pub tiles : g.edge.size % 256 ≡ 0
   pub unbegun : vec_items g.line ≡ []
   pub short : g.too_long ≡ None
 
--- the bytes are these whole lines, of which none is too long, and then the rest
+-- the bytes are these whole lines, none of which is too long, and then the rest
 pub record BeginsWith (bytes : Bytes) (lines : List Bytes) (rest : Bytes) : Type 0 where
   pub whole : bytes ≡ lines_text lines ++ rest
   pub plain : All HasNoNewline lines
   pub short : All (λ text. is_too_long text ≡ false) lines
 
--- why the edge of these lines isn't known: the first of them that is too long is at this place, or memory was refused
+-- why the edge of these lines isn't known: the first of them that is too long has this index, or memory ran out
 abbrev pub IsEdgeFault : List Bytes → RunFault → Type 0
 IsEdgeFault lines (EntryTooLong place) = first_too_long lines ≡ Some place
 IsEdgeFault lines OutOfMemory = Unit {0}
 IsEdgeFault lines fault = ⊥
 
--- the edge is that of these lines, of which none is too long, or the place of the first that is
+-- the edge is that of these lines, none of which is too long, or the result has the index of the first that is
 abbrev pub IsOutcome : List Bytes → Result EdgeContents RunFault → Type 0
 IsOutcome lines (Ok edge) = (first_too_long lines ≡ None) × IsEdgeOf edge sha256 lines
 IsOutcome lines (Err fault) = IsEdgeFault lines fault

@@ -13,9 +13,8 @@ use Rattle.tl_run.specs.Run.{most_input}
 use Rattle.tl_run.specs.declared.fault.RunFault.{RunFault}
 use Rattle.tl_command.specs.declared.growing.measuring.Measuring.{Measuring}
 
--- the input so far is whole lines and the beginning of one more; of these lines each 256 are a full bundle, whose
--- length is known; those that are left are fewer, and their bytes are counted with their newlines, and those of the
--- line that is begun
+-- the input so far is whole lines and the beginning of one more. Each 256 whole lines are a full bundle, whose length
+-- is known; fewer are left, whose bytes are counted with their newlines, as are the bytes of the begun line
 pub record IsMeasuring {A : Type 0} (m : Measuring A) (input : Bytes) : Type 0 where
   pub lines : List Bytes
   pub last : Bytes
@@ -38,7 +37,7 @@ pub record ReadMeasured (p : Passage) (edge : EdgeContents) (sizes : List ℕ) :
   pub stands : IsEdgeOf edge sha256 (entries_of input)
   pub lengths : AreBundleLengths sizes (entries_of input)
 
--- reading both
+-- reading the edge and the lengths
 abbrev pub ReadsMeasured : {A : Type 0} → Passage → Result (EdgeContents × Vec ℕ A) RunFault → Type 0
 ReadsMeasured p (Ok log) = ReadMeasured p log.0 (vec_items log.1)
 ReadsMeasured p (Err fault) = ReadsEdge p (Err fault)

@@ -14,14 +14,14 @@ use Rattle.tl_run.specs.declared.place.Place.TheVariants.{File}
 use Rattle.tl_command.specs.Open.{after_note, IsWrongNote, IsUnknownNote}
 use Rattle.tl_command.specs.CheckOpened.{IsNoCheckpoint}
 
--- a fault of opening a checkpoint, as one of the command
+-- the fault of the command for a fault of opening a checkpoint
 abbrev pub after_opening : OpenCheckpointFault → RunFault
 after_opening (opening.Unopened note.Malformed) = BadCheckpoint File
 after_opening (opening.Unopened fault) = after_note fault
 after_opening (opening.NoCheckpoint fault) = BadCheckpoint File
 after_opening opening.OutOfMemory = OutOfMemory
 
--- the checkpoint that bytes are, or why there is none
+-- the checkpoint that the bytes are, or why they are none
 abbrev pub OpensBytes : {A : Type 0} → Bytes → List Key → Result (Checkpoint A) RunFault → Type 0
 OpensBytes bytes keys (Ok c) = IsSignedCheckpoint bytes keys (head_of c)
 OpensBytes bytes keys (Err (BadCheckpoint place)) = (place ≡ File) × IsNoCheckpoint bytes

@@ -1,4 +1,4 @@
--- What the parts of `build` answer.
+-- What the parts of `build` return.
 use Rattle.std.specs.Prelude.{◌≡◌, ℕ, List, length, Contains, None, Some, Option, Result, Ok, Err}
 use Rattle.std.specs.declared.vec.Vec.{Vec}
 use Rattle.tl_hash.specs.Bytes.{Bytes}
@@ -13,25 +13,25 @@ use Rattle.tl_run.specs.Signing.{LogKey, checkpoint_note}
 use Rattle.tl_command.specs.Mirror.{mirrored, resource_text, listing_text}
 use Rattle.tl_command.specs.Build.{IsLawfulPath}
 
--- the resource with the path that was asked for
+-- the resource with the path asked for
 abbrev pub IsAsked : Option Bytes → Option Resource → Type 0
 IsAsked None None = Unit {0}
 IsAsked None (Some r) = ⊥
 IsAsked (Some path) None = ⊥
 IsAsked (Some path) (Some r) = IsResource r × (path_text r ≡ path)
 
--- reading the path that was asked for
+-- reading the path asked for
 abbrev pub ReadsPath : Option Bytes → Result (Option Resource) RunFault → Type 0
 ReadsPath get (Ok wanted) = IsAsked get wanted
 ReadsPath get (Err BadPath) = ¬ (IsLawfulPath get)
 ReadsPath get (Err fault) = ⊥
 
--- these resources have the one that is wanted, if one is
+-- the resource asked for, if one is, is among these
 abbrev pub IsServed : List Resource → Option Resource → Type 0
 IsServed resources None = Unit {0}
 IsServed resources (Some r) = Contains resources r
 
--- what is shown of the log of these entries: the listing, or the resource that is wanted
+-- what is shown of the log of these entries: the listing, or the resource asked for
 abbrev pub IsShown : Bytes → List Bytes → Option Resource → Bytes → Type 0
 IsShown note entries None text = text ≡ listing_text note entries (mirrored (length entries))
 IsShown note entries (Some r) text = Contains (mirrored (length entries)) r × (text ≡ resource_text note entries r)
@@ -43,7 +43,7 @@ AnswersWanted note entries wanted (Err NotThere) = ¬ (IsServed (mirrored (lengt
 AnswersWanted note entries wanted (Err OutOfMemory) = Unit {0}
 AnswersWanted note entries wanted (Err fault) = ⊥
 
--- what comes of an input where this resource, or the listing, is wanted
+-- the output for an input if this resource, or the listing, is asked for
 abbrev pub WantedComes : LogKey → Option Resource → Bytes → Output → Type 0
 WantedComes key wanted input (Prints text) =
     (first_too_long (entries_of input) ≡ None) × IsShown (checkpoint_note key (entries_of input)) (entries_of input) wanted text

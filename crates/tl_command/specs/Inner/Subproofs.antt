@@ -6,7 +6,7 @@ use Rattle.tl_hash.specs.Tree.{tree_of, tree_hash}
 use Rattle.tl_proof.specs.Proofs.{subproof}
 use Rattle.tl_command.specs.ProofText.{Consistency}
 
--- the subproof for the first `old` entries; `known` says whether the verifier has the hash of these entries where they
+-- the subproof for the first `old` entries; `known` says whether the verifier has the hash of these entries if they
 -- are a whole tree (RFC 6962, section 2.1.2)
 abbrev pub subproof_of : ℕ → Bool → List Bytes → Consistency
 subproof_of old known entries = record {

@@ -1,4 +1,4 @@
-//! The command `audit`: whether one list extends another by an accepted proof.
+//! The command `audit` checks that one list extends another by an accepted proof.
 
 ghost use Rattle.std.specs.Prelude.{◌≡◌, ◌++◌, codes, IfOk};
 ghost use Rattle.hex.specs.Hex.{encode_lower};
@@ -18,14 +18,14 @@ use tl_hash::TreeHash;
 use tl_proof::{AuditFault, Verdict, audit_tree};
 use tl_run::{MOST_INPUT, RunFault, print_text, read_input};
 
-// What is printed of an audit, and whether the answer is yes.
+// The text that is printed for an audit, and whether the answer is yes.
 #[derive(Drop)]
 pub(crate) struct Answer<A: Allocator> {
     pub(crate) text: Vec<u8, A>,
     pub(crate) yes: bool,
 }
 
-// The text that tells of two byte strings that collide: a line, and each of them in hexadecimal on a line.
+// Returns the text that shows two colliding byte strings: a line, and each of them in hexadecimal on a line.
 fn collision_text<A: Allocator + Copy>(
     alloc: A,
     first: &[u8],
@@ -42,7 +42,7 @@ fn collision_text<A: Allocator + Copy>(
     Ok(text)
 }
 
-// An answer of fixed words.
+// Returns an answer of fixed words.
 fn fixed<A: Allocator>(alloc: A, words: &[u8], yes: bool) -> Result<Answer<A>, AllocError>
     ensures { IfOk result (λ answer. (answer.text.items ≡ words.now) × (answer.yes ≡ yes)) }
 {
@@ -52,7 +52,7 @@ fn fixed<A: Allocator>(alloc: A, words: &[u8], yes: bool) -> Result<Answer<A>, A
     })
 }
 
-// What is answered of an audit.
+// Returns the answer to an audit.
 fn answer_of<T: TreeHash, A: Allocator + Copy, B: Allocator>(
     alloc: A,
     h: T,
@@ -71,7 +71,7 @@ fn answer_of<T: TreeHash, A: Allocator + Copy, B: Allocator>(
     }
 }
 
-// What is answered to a text: an answer of its audit, if it is one's.
+// Returns the answer to the audit whose text this is. It fails with `Malformed` if the text is no audit's.
 fn answer_to<T: TreeHash, A: Allocator + Copy>(
     alloc: A,
     h: T,
@@ -88,11 +88,11 @@ fn answer_to<T: TreeHash, A: Allocator + Copy>(
     }
 }
 
-/// Reads the whole input, the text of an audit: two lists of entries, and a consistency proof from the one to the
-/// other (RFC 6962, section 2.1.2). Writes `extends` where the proof is accepted and the first list is a prefix of
-/// the second. Else the answer is `Refused`, and what is written is `not accepted`, or `collision` and in hexadecimal
-/// two different byte strings, hashed for the audit, with one digest. Any other input is `Malformed`. Nothing is
-/// written before the whole input was read.
+/// Reads the whole input, the text of an audit: two lists of entries, and a consistency proof from the first list to
+/// the second (RFC 6962, section 2.1.2). It writes `extends` if the proof is accepted and the first list is a prefix
+/// of the second. Otherwise it fails with `Refused` and writes `not accepted`, or `collision` and, in hexadecimal,
+/// two different byte strings with one digest that were hashed for the audit. It fails with `Malformed` on any other
+/// input. Nothing is written before the whole input is read.
 pub fn run_audit<T: TreeHash, A: Allocator + Copy, R: Read, W: Write>(
     alloc: A,
     h: T,

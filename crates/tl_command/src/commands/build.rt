@@ -1,4 +1,4 @@
-//! The command `build`: what a static mirror of the log of the lines of the input serves.
+//! The command `build` prints what a static mirror of the log of the input's lines serves.
 
 ghost use Rattle.std.specs.Prelude.{◌≡◌, ◌<◌, ◌^◌, ◌↔◌, ◌⊎◌, IsTrue, IfErr, IfOk, MatchBool, Contains, None, Some, length, option_map};
 ghost use Rattle.tl_note.specs.Key.{IsKeyName};
@@ -37,11 +37,12 @@ pub struct BuildOptions {
     pub secret: String,
     /// The path of the one resource to print; without it, the listing of all of them.
     pub get: Option<String>,
-    /// How many threads hash at once, 1 at least; without it, as many as the machine has.
+    /// How many threads hash at once, at least 1; without it, as many as the machine has.
     pub threads: Option<u16>,
 }
 
-// The resource with the path that is asked for.
+// Returns the resource with the path that is asked for, if one is. It fails with `BadPath` if no resource has the
+// path.
 fn wanted_of(get: Option<&str>) -> Result<Option<Resource>, RunFault>
     ensures { ReadsPath (option_map (λ path. path.now) get.entry) result }
 {
@@ -54,7 +55,7 @@ fn wanted_of(get: Option<&str>) -> Result<Option<Resource>, RunFault>
     }
 }
 
-// Whether a log of so many entries has none, and a tile or an entry bundle is wanted of it.
+// Reports whether a log of this many entries has none although a tile or an entry bundle of it is asked for.
 fn is_of_no_entry(count: u64, wanted: Resource) -> bool
     ensures { MatchBool result
         ((count ≡ 0) × ¬ (Contains (mirrored 0) wanted))
@@ -70,8 +71,8 @@ fn is_of_no_entry(count: u64, wanted: Resource) -> bool
     }
 }
 
-// The bytes of a resource that the log of these lines has. No more is made than it needs: a tile hashes the lines under
-// it and no others, a bundle copies its own and hashes nothing, and neither signs.
+// Returns the bytes of a resource that the log of these lines has. It makes no more than the resource needs: a tile
+// hashes only the lines under it, a bundle copies only its own lines and hashes nothing, and neither is signed.
 fn wanted_bytes<H: Threads + Sync, K: LogSigner, A: Allocator + Copy, B: Allocator + Copy + Send>(
     rt: &H,
     alloc: A,
@@ -99,14 +100,15 @@ fn wanted_bytes<H: Threads + Sync, K: LogSigner, A: Allocator + Copy, B: Allocat
     }
 }
 
-// Whether these resources have the one that is wanted.
+// Reports whether these resources contain the one that is asked for.
 fn has_resource(resources: &[Resource], wanted: Resource) -> bool
     ensures { IsTrue result ↔ Contains resources.now wanted }
 {
     resources.contains(&wanted)
 }
 
-// The bytes of the resource that is wanted of the log of these lines, if it has that.
+// Returns the bytes of the resource that is asked for, or fails with `NotThere` if the log of these lines doesn't
+// have it.
 fn answer_of<H: Threads + Sync, K: LogSigner, A: Allocator + Copy, B: Allocator + Copy + Send>(
     rt: &H,
     alloc: A,
@@ -128,7 +130,7 @@ fn answer_of<H: Threads + Sync, K: LogSigner, A: Allocator + Copy, B: Allocator 
     wanted_bytes(rt, alloc, workers, threads, global, key, wanted, lines)
 }
 
-// Reads the whole input and writes the resource that is wanted of the log of its lines.
+// Reads the whole input and writes the resource that is asked for of the log of its lines.
 fn build<
     H: Threads + Sync,
     K: LogSigner,
@@ -168,8 +170,8 @@ fn build<
     Ok(())
 }
 
-// Reads the whole input and writes the listing of the log of its lines, of which no more is kept than a right edge and
-// the lengths of its bundles.
+// Reads the whole input and writes the listing of the log of its lines. It keeps only a right edge and the lengths of
+// the bundles.
 fn list<
     H: Threads + Sync,
     K: LogSigner,
@@ -204,11 +206,11 @@ fn list<
     Ok(())
 }
 
-/// Reads the whole input and writes what a static mirror of the log of its lines serves (C2SP tlog-tiles): with no path
-/// a line `path length` for each resource, the checkpoint last; with a path its bytes. The checkpoint is a note by the
-/// log's key, whose name is the log's. `BadOrigin`: no key has that name. `BadPath`: no resource has that path. Nothing
-/// is read then. `NotThere`: the log hasn't got it. The key's memory is `global`. Up to `threads` threads hash, with
-/// memory from `workers`.
+/// Reads the whole input and writes what a static mirror of the log of its lines serves (C2SP tlog-tiles): without a
+/// path a line `path length` for each resource, the checkpoint last; with a path that resource. The log's key signs
+/// the checkpoint, with memory from `global`. It fails with `BadOrigin` if the key's name can't be a key's and with
+/// `BadPath` if no resource has the path, both before it reads, and with `NotThere` if the log lacks the resource. Up
+/// to `threads` threads hash, with memory from `workers`.
 pub fn run_build<
     H: Threads + Sync,
     K: LogSigner,

@@ -1,4 +1,4 @@
-//! The command `check`: whether the proof in a text is accepted.
+//! The command `check` says whether the proof in a text is accepted.
 
 ghost use Rattle.std.specs.Prelude.{◌≡◌, ◌≢◌, ◌<◌, ◌↔◌, length, map, option_map, vec_items, IsTrue, IfOk, OnErr, MatchOption};
 ghost use Rattle.tl_device.specs.Device.{passage};
@@ -17,13 +17,13 @@ use tl_hash::{Hash, Sha256Tree, leaf_hash};
 use tl_proof::{check_record, check_tree};
 use tl_run::{MOST_INPUT, RunFault, print_text, read_input};
 
-// What the text of a proof says, and whether the proof is accepted.
+// What the text of a proof is about, and whether the proof is accepted.
 #[derive(Clone, Copy)]
 struct Finding {
     accepted: bool,
     size: u64,
     root: Hash,
-    // The hash of the entry that is shown; a consistency proof shows none.
+    // The hash of the entry that is shown, of which a consistency proof has none.
     leaf: Option<Hash>,
 }
 
@@ -67,7 +67,7 @@ fn consistency_finding<A: Allocator>(p: &ConsistencyProof<A>) -> Finding
     }
 }
 
-// Checks the proof of which these are the lines, if they are those of a proof.
+// Checks the proof whose text has these lines, and returns None if they are no proof's.
 fn finding_in_lines<A: Allocator + Copy, B: Allocator>(
     alloc: A,
     lines: &[Vec<u8, B>],
@@ -86,7 +86,7 @@ fn finding_in_lines<A: Allocator + Copy, B: Allocator>(
     }
 }
 
-// Checks the proof of which this is the text, if it is that of a proof.
+// Checks the proof whose text this is, and fails with `Malformed` if it is no proof's.
 fn finding_in<A: Allocator + Copy>(alloc: A, text: &[u8]) -> Result<Finding, RunFault>
     ensures { FindsInText text.now result }
 {
@@ -99,7 +99,8 @@ fn finding_in<A: Allocator + Copy>(alloc: A, text: &[u8]) -> Result<Finding, Run
     }
 }
 
-// Whether a proof is accepted, leads to the tree of this size and root, and shows the entry, if one is asked for.
+// Reports whether a proof is accepted, leads to the tree of this size and root, and shows the entry, if one is asked
+// for.
 fn is_about(finding: &Finding, size: u64, root: Hash, entry: Option<&[u8]>) -> bool
     ensures { IsTrue result ↔ IsFindingAbout (record
         { size = size; root = root; entry = option_map (λ e. e.now) entry.entry }) finding.now }
@@ -127,9 +128,9 @@ fn print_answer<W: Write>(writer: &mut Counted<W>, is_good: bool) -> Result<(), 
     }
 }
 
-/// Reads the whole input, which is the text of an inclusion or consistency proof, and writes `accepted` where the
-/// proof is accepted under SHA-256 (RFC 6962, sections 2.1.1 and 2.1.2). Where it isn't, `refused` is written, and
-/// the answer is `Refused`. An input that is no such text is `Malformed`.
+/// Reads the whole input, the text of an inclusion or consistency proof, and writes `accepted` if the proof is
+/// accepted under SHA-256 (RFC 6962, sections 2.1.1 and 2.1.2). Otherwise it writes `refused` and fails with
+/// `Refused`. It fails with `Malformed` if the input is no such text.
 pub fn run_check<A: Allocator + Copy, R: Read, W: Write>(
     alloc: A,
     reader: &mut Counted<R>,
@@ -143,9 +144,9 @@ pub fn run_check<A: Allocator + Copy, R: Read, W: Write>(
     print_answer(writer, finding.accepted)
 }
 
-/// The same, and the proof is also refused unless it is about the tree of this size and root, which a trusted
-/// checkpoint has: of a consistency proof the new tree. With an entry, only an inclusion proof of that entry is
-/// accepted.
+/// Checks a proof as `run_check` does, and accepts it only if it is about the tree of this size and root, which a
+/// trusted checkpoint has; of a consistency proof the new tree counts. With an entry it accepts only an inclusion
+/// proof of that entry.
 pub fn run_check_about<A: Allocator + Copy, R: Read, W: Write>(
     alloc: A,
     size: u64,

@@ -18,7 +18,7 @@ use tl_device::Counted;
 use tl_note::{NoteFault, Verifier};
 use tl_run::{Place, RunFault, read_log_key};
 
-/// An entry, as the words of a command give it.
+/// An entry, as the options of a command give it.
 #[derive(Drop)]
 pub enum GivenEntry {
     /// The bytes of this text.
@@ -34,11 +34,11 @@ pub struct CheckOptions {
     pub checkpoint: String,
     /// The text of the log's verifier key.
     pub key: String,
-    /// The entry that an inclusion proof is to show; without it any.
+    /// The entry that an inclusion proof has to show; without it, any entry.
     pub entry: Option<GivenEntry>,
 }
 
-// Why bytes are no signed checkpoint that opens.
+// Returns the fault of bytes that are no signed checkpoint that opens.
 fn checkpoint_refusal(fault: OpenCheckpointFault) -> RunFault
     ensures { result ≡ after_opening fault }
 {
@@ -50,7 +50,7 @@ fn checkpoint_refusal(fault: OpenCheckpointFault) -> RunFault
     }
 }
 
-// The signed checkpoint that these bytes are, where it opens under these keys.
+// Returns the checkpoint that these bytes are, if it opens under these keys.
 fn checkpoint_of(
     alloc: Global,
     bytes: &[u8],
@@ -67,7 +67,7 @@ fn checkpoint_of(
     }
 }
 
-// Checks the proof of the input against the checkpoint, where it opens under these keys and is of the log with this
+// Checks the proof of the input against the checkpoint, if it opens under these keys and is of the log with this
 // name.
 fn check_under<R: Read, W: Write>(
     alloc: Global,
@@ -96,7 +96,7 @@ fn check_under<R: Read, W: Write>(
     )
 }
 
-// The same, where the one key is that of which this is the text.
+// Checks the proof as `check_under` does, under the one key whose text this is.
 fn check_by<R: Read, W: Write>(
     alloc: Global,
     text: &str,
@@ -115,11 +115,11 @@ fn check_by<R: Read, W: Write>(
     check_under(alloc, verifiers, name, bytes, entry, reader, writer)
 }
 
-/// `check` against a signed checkpoint: a note that opens under the key of this text, whose text is a checkpoint of
-/// the log with the key's name (C2SP tlog-checkpoint). `accepted` is written where the proof is accepted and about the
-/// checkpoint's tree, of a consistency proof the new one, and with an entry only where it is an inclusion proof of it.
-/// A text of no key is `BadKey`, what is no checkpoint that opens `BadCheckpoint`, `WrongSignature` or `Unverified`,
-/// one of another log `BadOrigin`, all before anything is read.
+/// Checks a proof as `run_check_about` does, against a signed checkpoint: a note that opens under the key of this
+/// text, and is a checkpoint of the log with the key's name (C2SP tlog-checkpoint). The new tree of a consistency
+/// proof has to be the checkpoint's. It fails before it reads, with `BadKey` if the text is no key's, with
+/// `BadCheckpoint`, `WrongSignature` or `Unverified` if the bytes are no checkpoint that opens, and with `BadOrigin`
+/// if it is another log's.
 pub fn run_check_opened<R: Read, W: Write>(
     alloc: Global,
     text: &str,

@@ -1,4 +1,5 @@
-//! The command `open` under the key of a witness: the message that it signed of a note, which has the time.
+//! The command `open` under the key of a witness prints the message that the witness signed of a note, which has the
+//! time.
 
 ghost use Rattle.std.specs.Prelude.{◌≡◌, ◌↔◌, ◌+◌, ◌≤◌, IfErr, IfOk, IsTrue, MatchOption, length};
 ghost use Rattle.tl_checkpoint.specs.Cosignature.{IsOfKey};
@@ -20,25 +21,25 @@ use tl_key::{CosignerVerifier, KeyFault, read_verifier_key};
 use tl_note::{SigView, Verifier, parse_note};
 use tl_run::{MOST_INPUT, RunFault, print_text, read_input};
 
-// What the lines of a note are to a key.
+// What the signature lines of a note are to a key.
 #[derive(Clone, Copy)]
 enum Found {
     // The first line of the key is its cosignature, at this time.
     Time(u64),
-    // The first line of the key, at this place, is no cosignature of the text.
+    // The first line of the key, at this index, is no cosignature of the text.
     Wrong(u64),
     // No line is of the key.
     Nothing,
 }
 
-// Whether a line is of a key, by its name and identifier.
+// Reports whether a line is of a key, by its name and identifier.
 fn is_of(line: &SigView<'_>, verifier: &dyn Verifier) -> bool
     ensures { IsTrue result ↔ IsOfKey (key verifier.now) line.now }
 {
     line.name() == verifier.name() && line.key_id() == verifier.key_id()
 }
 
-// What the first line of the key says of the text, if one is of it; the first of these lines has the place `from`.
+// Returns what the key's first line among these is to the text. The first of the lines has the index `from`.
 fn find(
     alloc: Global,
     text: &str,
@@ -61,7 +62,7 @@ fn find(
     }
 }
 
-// The message that the key signed of a note.
+// Returns the message that the key signed of a note.
 fn message_in(alloc: Global, note: &str, verifier: &dyn Verifier) -> Result<String, RunFault>
     ensures { GivesMessage (key verifier.now) note.now result }
 {
@@ -100,7 +101,8 @@ pub(crate) fn open_cosigned<R: Read, W: Write>(
     }
 }
 
-/// The key of a witness that a text is of, if it is of one (C2SP signed-note, "Verifier keys").
+/// Returns the key of a witness whose text this is, or None if it is no such text (C2SP signed-note, "Verifier
+/// keys"). It fails only if allocation fails.
 pub(crate) fn read_cosigner(
     alloc: Global,
     text: &str,

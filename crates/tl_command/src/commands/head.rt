@@ -1,4 +1,4 @@
-//! The command `head`: the checkpoint of the log whose entries are the lines of the input.
+//! The command `head` prints the checkpoint of the log whose entries are the lines of the input.
 
 ghost use Rattle.tl_device.specs.Device.{passage};
 ghost use Rattle.tl_command.specs.Head.{RunsHead};
@@ -16,14 +16,14 @@ use tl_text::is_one_line;
 pub struct HeadOptions {
     /// The name of the log.
     pub origin: String,
-    /// How many threads hash at once, 1 at least; without it, as many as the machine has.
+    /// How many threads hash at once, at least 1; without it, as many as the machine has.
     pub threads: Option<u16>,
 }
 
 /// Reads the whole input and writes the text of the checkpoint (C2SP tlog-checkpoint) of the log of its lines: the
-/// origin, their number and their Merkle tree hash under SHA-256. An origin that isn't one line is `BadOrigin` before
-/// anything is read; nothing is written before the whole input was read. Up to `threads` threads hash at once and take
-/// memory from `workers`; 0 counts as 1. It keeps 1 MiB of the input, right edges and one line, and the threads'
+/// origin, their number and their Merkle tree hash under SHA-256. It fails with `BadOrigin`, before it reads, if the
+/// origin isn't one line. Nothing is written before the whole input is read. Up to `threads` threads hash at once,
+/// with memory from `workers`; 0 counts as 1. It keeps 1 MiB of the input, right edges, one line and the threads'
 /// stacks, whatever the input.
 pub fn run_head<
     H: Threads + Sync,

@@ -1,4 +1,4 @@
-//! The command `keygen`: a new key.
+//! The command `keygen` makes a new key.
 
 ghost use Rattle.std.specs.Prelude.{◌≡◌, IfOk, OnOk, string_bytes};
 ghost use Rattle.tl_device.specs.Device.{passage};
@@ -20,7 +20,7 @@ use tl_run::{RunFault, print_text};
 pub struct KeygenOptions {
     /// The key's name.
     pub name: String,
-    /// Whether it is a witness's, which cosigns, and not a log's.
+    /// Whether it is a key of a witness, which cosigns, and not a log's.
     pub is_cosigner: bool,
 }
 
@@ -31,7 +31,7 @@ struct Texts {
     verifier: String,
 }
 
-// The key of this name and these random bytes.
+// Returns the key of this name and these random bytes.
 fn key_of<K: KeyKind>(
     alloc: Global,
     name: &str,
@@ -46,7 +46,7 @@ fn key_of<K: KeyKind>(
     }
 }
 
-// Its texts.
+// Returns the texts of a key.
 fn texts_of<K: KeyKind>(alloc: Global, key: &SignerKey<K, Global>) -> Result<Texts, AllocError>
     ensures lawful { OnOk result (IsSignerText K.KIND (private_text key.now) key.now) }
     ensures private { IfOk result
@@ -62,10 +62,10 @@ fn texts_of<K: KeyKind>(alloc: Global, key: &SignerKey<K, Global>) -> Result<Tex
     Ok(Texts { private, verifier })
 }
 
-/// Makes a key of this name and type from 32 random bytes, and prints its texts, a line each: the verifier's to
-/// `errors`, and then the private one to `writer` (C2SP signed-note, "Verifier keys"; golang.org/x/mod/sumdb/note).
-/// Where the system gives no random bytes it is `Read`; a name that is no key's is `BadName`. Until both texts are
-/// there nothing is written.
+/// Makes a key of this name and type from 32 random bytes. It prints the text of the verifier key to `errors`, and
+/// then that of the private key to `writer`, a line each (C2SP signed-note, "Verifier keys";
+/// golang.org/x/mod/sumdb/note). It fails with `Read` if the system gives no random bytes, and with `BadName` if the
+/// name can't be a key's. Nothing is written until both texts are made.
 pub fn run_keygen<K: KeyKind, H: RandomSource, W: Write, E: Write>(
     rt: &H,
     alloc: Global,

@@ -1,4 +1,4 @@
-//! The command `open`: what a key signed of a note.
+//! The command `open` prints what a key signed of a note.
 
 ghost use Rattle.std.specs.Prelude.{◌≡◌, ◌∷◌, [], map, vec_items};
 ghost use Rattle.tl_run.specs.Run.{Runs};
@@ -15,8 +15,8 @@ use tl_device::Counted;
 use tl_note::{NoteFault, Verifier, open_note};
 use tl_run::{MOST_INPUT, RunFault, print_text, read_input, read_log_key};
 
-/// Why a note doesn't open, as a fault of a command: `WrongSignature` has the place of the line, counted from 0; what
-/// is no note is `Malformed`.
+/// Returns the fault of a command for a note that doesn't open: `WrongSignature` has the index of the line, counted
+/// from 0, and `Malformed` stands for bytes that are no note.
 pub fn note_refusal(fault: NoteFault) -> RunFault
     ensures { result ≡ after_note fault }
 {
@@ -30,7 +30,7 @@ pub fn note_refusal(fault: NoteFault) -> RunFault
     }
 }
 
-// Reads a note and prints its text, where it opens under these keys.
+// Reads a note and prints its text, if it opens under these keys.
 fn open_under<R: Read, W: Write>(
     alloc: Global,
     verifiers: &[Box<dyn Verifier>],
@@ -50,7 +50,7 @@ fn open_under<R: Read, W: Write>(
     }
 }
 
-// The same, where the one key is that of which this is the text.
+// Reads a note and prints its text, if it opens under the one key whose text this is.
 fn open_by<R: Read, W: Write>(
     alloc: Global,
     text: &str,
@@ -66,7 +66,7 @@ fn open_by<R: Read, W: Write>(
     open_under(alloc, verifiers, reader, writer)
 }
 
-// Reads a note and prints its text, if it opens under the key of a log that `text` is of.
+// Reads a note and prints its text, if it opens under the log's key whose text `text` is.
 fn open_signed<R: Read, W: Write>(
     alloc: Global,
     text: &str,
@@ -81,7 +81,7 @@ fn open_signed<R: Read, W: Write>(
     open_by(alloc, text, &[verifier], reader, writer)
 }
 
-// Reads a note and prints what the key of a witness that `text` is of signed of it.
+// Reads a note and prints what the witness's key whose text `text` is signed of it.
 fn open_by_witness<R: Read, W: Write>(
     alloc: Global,
     text: &str,
@@ -97,11 +97,11 @@ fn open_by_witness<R: Read, W: Write>(
     open_cosigned(alloc, verifier, reader, writer)
 }
 
-/// Reads the whole input, which is a note, and prints what the key that `text` is of signed of it. Under a log's key
-/// that is the note's text (C2SP signed-note, "Verification"), under a witness's the message of its cosignature, which
-/// has the time (C2SP tlog-cosignature, "Format"). The first line of the key counts: `WrongSignature` has the place of
-/// one that isn't valid. `Unverified`: no line is of the key. `Malformed`: the input is no note. `BadKey`: the text is
-/// of neither, and nothing is read.
+/// Reads the whole input, a note, and prints what the key whose text `text` is signed of it: under a log's key the
+/// note's text (C2SP signed-note, "Verification"), under a witness's key the message of its cosignature, which has
+/// the time (C2SP tlog-cosignature, "Format"). The key's first line counts. It fails with `WrongSignature` of that
+/// line if it isn't valid, with `Unverified` if no line is the key's, with `Malformed` if the input is no note, and
+/// with `BadKey`, before it reads, if the text is no key's.
 pub fn run_open<R: Read, W: Write>(
     alloc: Global,
     text: &str,

@@ -1,4 +1,4 @@
-//! The commands `inclusion` and `consistency`: a proof about the lines of the input.
+//! The commands `inclusion` and `consistency` print a proof about the lines of the input.
 
 ghost use Rattle.std.specs.Prelude.{◌≡◌, ◌<◌, ◌≤◌, length, IfErr, IfOk};
 ghost use Rattle.tl_device.specs.Device.{passage};
@@ -21,9 +21,9 @@ use tl_device::Counted;
 use tl_run::{MOST_INPUT, RunFault, print_text, read_input};
 
 /// Reads the whole input and writes the text of the inclusion proof (RFC 6962, section 2.1.1) of the line at `index`,
-/// counted from 0, in the tree of all its lines under SHA-256. An index that isn't below the number of lines is
-/// `BadIndex`. Nothing is written before the whole input was read. Up to `threads` threads hash at once, with memory
-/// from `workers`.
+/// counted from 0, in the tree of all its lines under SHA-256. It fails with `BadIndex` if the index isn't below the
+/// number of lines. Nothing is written before the whole input is read. Up to `threads` threads hash at once, with
+/// memory from `workers`.
 pub fn run_inclusion<
     H: Threads + Sync,
     A: Allocator + Copy,
@@ -57,8 +57,9 @@ pub fn run_inclusion<
 }
 
 /// Reads the whole input and writes the text of the consistency proof (RFC 6962, section 2.1.2) from the tree of its
-/// first `old` lines to that of all of them under SHA-256. An old size above the number of lines is `BadOld`. Nothing
-/// is written before the whole input was read. Up to `threads` threads hash at once, with memory from `workers`.
+/// first `old` lines to that of all its lines under SHA-256. It fails with `BadOld` if `old` is above the number of
+/// lines. Nothing is written before the whole input is read. Up to `threads` threads hash at once, with memory from
+/// `workers`.
 pub fn run_consistency<
     H: Threads + Sync,
     A: Allocator + Copy,
@@ -91,7 +92,7 @@ pub fn run_consistency<
     Ok(())
 }
 
-// The text of the inclusion proof of the line at this index.
+// Returns the text of the inclusion proof of the line at this index.
 fn inclusion_text_over<H: Threads + Sync, A: Allocator + Copy, B: Allocator + Copy + Send>(
     rt: &H,
     alloc: A,
@@ -109,7 +110,7 @@ fn inclusion_text_over<H: Threads + Sync, A: Allocator + Copy, B: Allocator + Co
     Ok(inclusion_bytes(alloc, &proof)?)
 }
 
-// The text of the consistency proof for the first `old` lines.
+// Returns the text of the consistency proof for the first `old` lines.
 fn consistency_text_over<H: Threads + Sync, A: Allocator + Copy, B: Allocator + Copy + Send>(
     rt: &H,
     alloc: A,

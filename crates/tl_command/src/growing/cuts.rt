@@ -1,18 +1,18 @@
-//! Places at which a piece of input is cut after whole lines. They say how work is shared, and no more is promised of
-//! them than that they stand in the piece.
+//! Places after whole lines at which a piece of input is cut to share the work. Nothing else is promised of them than
+//! that they lie in the piece.
 
 ghost use Rattle.std.specs.Prelude.{◌≤◌, length};
 
 use crate::text::{TILE, lines_end};
 
-// So many tiles of lines at the beginning of a piece, and where the last of them ends.
+// The number of tiles of lines at the beginning of a piece, and where the last of them ends.
 #[derive(Clone, Copy)]
 pub(super) struct Tiles {
     pub(super) end: usize,
     pub(super) count: usize,
 }
 
-// The tiles of lines at the beginning of a piece, `most` of them at most.
+// Returns the tiles of lines at the beginning of a piece, at most `most` of them.
 pub(super) fn first_tiles(piece: &[u8], most: usize) -> Tiles
     ensures end { result.end ≤ length piece.now }
     ensures count { result.count ≤ most }

@@ -1,4 +1,4 @@
-//! How long the entry bundles of an input's lines are, while the input is read.
+//! Measures the entry bundles of an input's lines while the input is read.
 
 ghost use Rattle.std.specs.Prelude.{◌≡◌, ◌+◌, ◌<◌, ◌≤◌, ◌^◌, ◌∷◌, ◌++◌, [], length, take, IfOk, OnOk};
 ghost use Rattle.tl_hash.specs.Bytes.{Bytes};
@@ -12,8 +12,8 @@ use std::alloc::{AllocError, Allocator};
 // How many lines a bundle has.
 const BUNDLE: u64 = 256;
 
-// What is kept of an input so far: the lengths of its full bundles, and how many lines there are behind them, how many
-// bytes these have with their newlines, and how many the line that is begun has.
+// The state after the input so far: the lengths of its full bundles, the number of lines behind them, how many bytes
+// these have with their newlines, and how many the begun line has.
 #[derive(Drop)]
 pub(crate) struct Measuring<A: Allocator> {
     lengths: Vec<u64, A>,
@@ -23,7 +23,7 @@ pub(crate) struct Measuring<A: Allocator> {
 }
 
 impl<A: Allocator + Copy> Measuring<A> {
-    /// What is kept of no input.
+    /// Returns the state before any input.
     pub(crate) fn new(alloc: A) -> Measuring<A>
         ensures size { result.bytes + result.begun ≡ 0 }
         ensures few { result.count < 256 }
@@ -37,7 +37,8 @@ impl<A: Allocator + Copy> Measuring<A> {
         }
     }
 
-    // The end of the last line. A bundle's length has two bytes more for each entry, and none for a newline.
+    // Takes the newline that ends the last line. A bundle has two bytes more for each entry than the entry's, and no
+    // newlines.
     fn end_line(&mut self) -> Result<(), AllocError>
         requires room { self.old.bytes + self.old.begun < 2 ^ 32 }
         requires few { self.old.count < 256 }
@@ -60,8 +61,8 @@ impl<A: Allocator + Copy> Measuring<A> {
         Ok(())
     }
 
-    // The beginning of a piece of the input: its first line, or all of it where it has no newline. Gives the number of
-    // bytes taken.
+    // Takes the beginning of a piece of the input, its first line, or all of it if it has no newline, and returns how
+    // many bytes it took.
     fn take_some(&mut self, piece: &[u8]) -> Result<usize, AllocError>
         requires room { self.old.bytes + self.old.begun + length piece.now < 2 ^ 32 }
         requires few { self.old.count < 256 }
@@ -82,7 +83,7 @@ impl<A: Allocator + Copy> Measuring<A> {
         Ok(end + 1)
     }
 
-    /// A piece more of the input.
+    /// Takes one more piece of the input.
     pub(crate) fn take(&mut self, piece: &[u8]) -> Result<(), AllocError>
         requires room { self.old.bytes + self.old.begun + length piece.now < 2 ^ 32 }
         requires few { self.old.count < 256 }
@@ -99,8 +100,7 @@ impl<A: Allocator + Copy> Measuring<A> {
         Ok(())
     }
 
-    /// The end of the input, of which a last line that isn't empty is one of its lines: the lengths of the bundles of
-    /// all lines.
+    /// Ends the input, whose last line counts if it isn't empty, and returns the lengths of the bundles of all lines.
     pub(crate) fn finish(mut self) -> Result<Vec<u64, A>, AllocError>
         requires room { self.bytes + self.begun < 2 ^ 32 }
         requires few { self.count < 256 }
@@ -114,7 +114,7 @@ impl<A: Allocator + Copy> Measuring<A> {
         self.rest()
     }
 
-    // The lengths of the bundles of all lines, where none is begun.
+    // Returns the lengths of the bundles of all lines, when no line is begun.
     fn rest(self) -> Result<Vec<u64, A>, AllocError>
         requires room { self.bytes < 2 ^ 33 }
         requires few { self.count < 256 }

@@ -1,4 +1,4 @@
-//! The right edge of the log of the lines of all that a reader gives.
+//! Reads an input and returns the right edge of the log of its lines.
 
 ghost use Rattle.std.specs.Prelude.{◌≡◌, ◌-◌, ◌<◌, ◌≤◌, ◌^◌, true, length, take, vec_len, IfNone, IfOk, IfSome, OnSome};
 ghost use Rattle.std.specs.Io.KnownBytes.{Consumes, IsAtEnd};
@@ -20,8 +20,8 @@ use tl_tile::Edge;
 // How many bytes of the input are kept at once, 1 MiB.
 const BLOCK: usize = 1_048_576;
 
-// Reads until the buffer is full or the input ended. Gives the number of bytes read: fewer than the buffer has only
-// where the input ended, and none where a read failed.
+// Reads until the buffer is full or the input ends, and returns how many bytes it read: fewer than the buffer has
+// only if the input ended. It returns None if a read failed.
 fn fill<R: Read>(reader: &mut Counted<R>, buf: &mut [u8]) -> Option<usize>
     ensures length { length buf.new ≡ length buf.old }
     ensures bound { IfSome result (λ n. n ≤ length buf.new) }
@@ -43,15 +43,15 @@ fn fill<R: Read>(reader: &mut Counted<R>, buf: &mut [u8]) -> Option<usize>
     Some(at)
 }
 
-// A block of the input with no bytes of it yet.
+// Returns a block for the input, with none of its bytes yet.
 fn empty_block<A: Allocator>(alloc: A) -> Result<Vec<u8, A>, AllocError>
     ensures { IfOk result (λ block. vec_len block ≡ 1048576) }
 {
     vec![in alloc; 0u8; BLOCK]
 }
 
-/// The right edge of the log of the lines of an input, hashed by so many threads, which take memory from `workers`.
-/// Where a line has more than 65,535 bytes, it is `EntryTooLong` of the first such line.
+/// Returns the right edge of the log of the lines of an input. It fails with `EntryTooLong` of the first line that
+/// has more than 65,535 bytes. Up to `threads` threads hash, with memory from `workers`.
 pub(crate) fn edge_of<H: Threads + Sync, A: Allocator + Copy, B: Allocator + Copy + Send>(
     rt: &H,
     alloc: A,
@@ -67,9 +67,9 @@ pub(crate) fn edge_of<H: Threads + Sync, A: Allocator + Copy, B: Allocator + Cop
     growing.finish()
 }
 
-/// The right edge of the log of the lines of all that the reader gives, hashed by so many threads, which take memory
-/// from `workers`. An input of more than 64 MiB is `TooLarge`, and then one with a line of more than 65,535 bytes is
-/// `EntryTooLong` of the first such line. It keeps 1 MiB of the input at once.
+/// Reads all that the reader gives and returns the right edge of the log of its lines. It fails with `TooLarge` if
+/// the input has more than 64 MiB, and else with `EntryTooLong` of the first line that has more than 65,535 bytes. It
+/// keeps 1 MiB of the input at once. Up to `threads` threads hash, with memory from `workers`.
 pub(crate) fn read_edge<
     H: Threads + Sync,
     A: Allocator + Copy,
@@ -100,8 +100,8 @@ pub(crate) fn read_edge<
     Err(RunFault::TooLarge)
 }
 
-/// The right edge of the log of the lines of all that the reader gives, and the lengths of its entry bundles. It reads
-/// as `read_edge` does, and keeps eight bytes for each bundle besides.
+/// Reads as `read_edge` does, and returns the right edge of the log and the lengths of its entry bundles. It keeps
+/// eight bytes more for each bundle.
 pub(crate) fn read_measured<
     H: Threads + Sync,
     A: Allocator + Copy,

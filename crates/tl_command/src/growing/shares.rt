@@ -1,4 +1,4 @@
-//! The right edge of the log of an input's lines, hashed by several threads.
+//! Builds the right edge of the log of an input's lines by several threads.
 
 ghost use Rattle.std.specs.Prelude.{◌≡◌, ◌<◌, ◌≤◌, ◌+◌, ◌^◌, ◌++◌, length, take, IfOk, OnOk};
 ghost use Rattle.std.specs.Thread.{IsSync};
@@ -12,15 +12,15 @@ use crate::text::lines_end;
 use std::alloc::{AllocError, Allocator};
 use std::thread::{Threads, join};
 
-// The most tiles of a share: its lines are fewer than an edge can be put after another with.
+// The most tiles of a share. An edge takes no more than 65,535 lines of another at once.
 const MOST_TILES: usize = 255;
 
 // A piece of fewer bytes is hashed by one thread.
 const LEAST_SHARED: usize = 16_384;
 
 impl<A: Allocator + Copy> Growing<A> {
-    // Puts what was kept of the next piece of the input after what is kept. Where either isn't whole tiles of lines, it
-    // takes the piece itself.
+    // Adds the state of the next piece of the input. If either state isn't whole tiles of lines, it takes the piece
+    // itself.
     fn absorb<B: Allocator + Copy>(
         &mut self,
         next: &Growing<B>,
@@ -39,7 +39,7 @@ impl<A: Allocator + Copy> Growing<A> {
         Ok(())
     }
 
-    // How many bytes of a block stand before its first line that begins a tile.
+    // Returns how many bytes of a block stand before its first line that begins a tile.
     fn before_tile(&self, block: &[u8]) -> usize
         ensures { result ≤ length block.now }
     {
@@ -56,8 +56,8 @@ impl<A: Allocator + Copy> Growing<A> {
         }
     }
 
-    // The beginning of a block: what stands before its first tile, or else a share, hashed by so many threads, or all
-    // of it where no tile stands there. Gives the number of bytes taken.
+    // Takes the beginning of a block and returns how many bytes it took: what stands before its first tile, or else a
+    // share of tiles, hashed by this many threads, or all of the block if no tile stands there.
     fn take_share<H: Threads + Sync, B: Allocator + Copy + Send>(
         &mut self,
         rt: &H,
@@ -88,7 +88,7 @@ impl<A: Allocator + Copy> Growing<A> {
         Ok(end)
     }
 
-    // A piece more of the input, as `take` takes it, hashed by so many threads.
+    // Takes one more piece of the input as `take` does, hashed by this many threads.
     pub(super) fn take_block<H: Threads + Sync, B: Allocator + Copy + Send>(
         &mut self,
         rt: &H,
@@ -112,7 +112,7 @@ impl<A: Allocator + Copy> Growing<A> {
     }
 }
 
-// What is kept of a piece alone, hashed by one thread.
+// Returns the state of a piece alone, hashed by one thread.
 fn alone<B: Allocator + Copy>(workers: B, piece: &[u8]) -> Result<Growing<B>, AllocError>
     requires { length piece.now < 2 ^ 32 }
     ensures size { IfOk result (λ grown. grown.edge.size ≤ length piece.now) }
@@ -123,9 +123,9 @@ fn alone<B: Allocator + Copy>(workers: B, piece: &[u8]) -> Result<Growing<B>, Al
     Ok(growing)
 }
 
-// What is kept of a piece alone, that has so many tiles of lines, by so many threads: each has a part of the tiles.
-// This thread starts the others one after another: where two threads start one each at a time, both may come on one
-// processor.
+// Returns the state of a piece alone that begins with this many tiles of lines, hashed by this many threads, each of
+// which has a part of the tiles. One thread starts the others, one after another: if two threads started one each at
+// a time, both could land on one processor.
 fn grow<H: Threads + Sync, B: Allocator + Copy + Send>(
     rt: &H,
     workers: B,

@@ -1,10 +1,10 @@
--- What of a log is asked for before its turn.
+-- What is asked for of a log before its turn.
 use Rattle.std.specs.Prelude.{◌≡◌, ℕ, ◌*◌, ◌<◌}
 use Rattle.tl_tile.specs.Needed.{bundle_width}
 use Rattle.tl_tile.specs.declared.resource.Resource.{Resource}
 use Rattle.tl_tile.specs.declared.resource.Resource.TheVariants as resource
 
--- a log of this size has the bundle with this index, of this width
+-- a log of this size has the bundle with this index, and it has this width
 pub record IsOfBundle (size index width : ℕ) : Type 0 where
   pub within : 256 * index < size
   pub wide : width ≡ bundle_width size index

@@ -1,4 +1,4 @@
--- Whether a note was cosigned lately enough, step by step.
+-- Steps of checking that a note was cosigned lately enough.
 use Rattle.std.specs.Prelude.{◌≡◌, ◌⊎◌, ℕ, ◌<◌, ◌≤◌, List, Contains, Option, Some}
 use Rattle.tl_hash.specs.Bytes.{Bytes}
 use Rattle.tl_note.specs.Key.{Key}
@@ -12,18 +12,18 @@ use Rattle.tl_fetch.specs.declared.fault.FetchFault.TheVariants.{Run, Stale}
 abbrev pub IsLate : Bytes → ℕ → Key → Signature → Type 0
 IsLate text since key line = (time : ℕ) × IsCosignature text key line time × (since ≤ time)
 
--- it is none, or of an earlier time
+-- the line is no cosignature of the text by the key, or one of an earlier time
 abbrev pub IsEarly : Bytes → ℕ → Key → Signature → Type 0
 IsEarly text since key line = (time : ℕ) → IsCosignature text key line time → time < since
 
--- one of the lines is late, and each is early
+-- one of the lines is late; each of the lines is early
 abbrev pub HasLate : Bytes → List Signature → ℕ → Key → Type 0
 HasLate text lines since key = (line : Signature) × Contains lines line × IsLate text since key line
 
 abbrev pub AreEarly : Bytes → List Signature → ℕ → Key → Type 0
 AreEarly text lines since key = (line : Signature) → Contains lines line → IsEarly text since key line
 
--- the same by one of the keys, and by each
+-- one of the lines is late by one of the keys; each is early by each key
 abbrev pub SomeLate : Bytes → List Signature → ℕ → List Key → Type 0
 SomeLate text lines since keys = (key : Key) × Contains keys key × HasLate text lines since key
 
@@ -38,7 +38,7 @@ pub record IsOld (note : Bytes) (witnesses : List Key) (asked : Option ℕ) (sin
   pub noted : Note note text lines
   pub early : AllEarly text lines since witnesses
 
--- why a note isn't taken for a fresh one
+-- why a note isn't accepted as fresh
 abbrev pub RefusesFresh : Bytes → List Key → Option ℕ → FetchFault → Type 0
 RefusesFresh note witnesses asked fault =
     (fault ≡ Run OutOfMemory)

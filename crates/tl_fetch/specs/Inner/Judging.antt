@@ -21,19 +21,19 @@ use Rattle.tl_fetch.specs.Trusting.{Two}
 abbrev pub two_of : Option Bytes → Head → Bytes → Head → Two
 two_of last old note new = record { last = last; old = old; note = note; new = new }
 
--- a size and a root as a checkpoint without more
+-- a checkpoint of a size and a root and nothing else
 abbrev pub bare : Head → checkpoint.Head
 bare head = record { origin = []; size = head.size; root = head.root; extensions = [] }
 
--- a consistency proof that is accepted to the larger tree, from a root at this size
+-- an accepted consistency proof to the larger tree, from a root at this size
 pub record LeadsTo (old : ℕ) (larger : Head) (p : Consistency) : Type 0 where
   pub old_is : p.old ≡ old
   pub size_is : p.size ≡ larger.size
   pub root_is : p.root ≡ larger.root
   pub accepted : AcceptsConsistency sha256 p.proof p.size p.root p.old p.old_root
 
--- two heads disagree, and both notes were printed with what shows it, or some of that until the writer failed; or there
--- is one note alone
+-- two heads disagree, and both notes were printed with what shows it, or some of that until the writer failed; or
+-- there is only one note
 abbrev pub Accuses : Two → FetchFault → Passage → Type 0
 Accuses two fault o =
     (shown : Bytes) × Disagree (bare two.old) (bare two.new) shown
@@ -42,6 +42,6 @@ Accuses two fault o =
     × (((fault ≡ Forked) × PrintedWhole (λ text. text ≡ evidence_text last two.note shown) o)
     ⊎ ((fault ≡ Run Write) × PrintedSome (λ text. text ≡ evidence_text last two.note shown) o))))
 
--- one doesn't go on from the other
+-- one of the two doesn't extend the other
 abbrev pub JudgesTwo : (Resource → Bytes → Type 0) → (Resource → Type 0) → Two → FetchFault → Passage → Type 0
 JudgesTwo answers lacks two fault o = Accuses two fault o ⊎ (IsUnaccused answers lacks two fault × IsUnwritten o)

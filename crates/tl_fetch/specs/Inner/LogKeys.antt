@@ -6,12 +6,12 @@ use Rattle.tl_note.specs.Key.{Key}
 use Rattle.tl_fetch.specs.declared.options.FetchOptions.{FetchOptions}
 use Rattle.tl_fetch.specs.Command.{HaveLogKeys, HaveOwnKeys, log_texts, public_keys, witness_texts}
 
--- the second has the name of the first, and a public key of its own
+-- the second key has the name of the first, and a public key of its own
 pub record AreTwo (key other : PublicKey) : Type 0 where
   pub named : other.name ≡ key.name
   pub own : other.key ≢ key.key
 
--- it hasn't, or the first's
+-- the second key has another name, or the public key of the first
 abbrev pub AreNotTwo : PublicKey → PublicKey → Type 0
 AreNotTwo key other = (other.name ≢ key.name) ⊎ (other.key ≡ key.key)
 
@@ -20,11 +20,11 @@ abbrev pub keys_of : PublicKey → Option PublicKey → List PublicKey
 keys_of key None = key ∷ []
 keys_of key (Some other) = key ∷ other ∷ []
 
--- the keys that were told, of a log of this name, and no witness has one of their public keys
+-- the keys of the log of this name that the options name, of which no witness has a public key
 pub record AreTold (options : FetchOptions) (name : Bytes) (keys : List PublicKey) : Type 0 where
   pub spelled : HaveLogKeys name (log_texts options) keys
   pub own : HaveOwnKeys (public_keys keys) (witness_texts options)
 
--- verifiers are of these
+-- the verifiers are those of such keys
 abbrev pub ToldBy : FetchOptions → Bytes → List Key → Type 0
 ToldBy options name verifiers = (keys : List PublicKey) × AreTold options name keys × (verifiers ≡ map verifier_key keys)

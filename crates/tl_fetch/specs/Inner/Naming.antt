@@ -11,19 +11,19 @@ use Rattle.tl_fetch.specs.Fetching.{HasFetched, RefusesFetch, grounds_of}
 use Rattle.tl_fetch.specs.Trusting.{Policy}
 
 -- a run under a policy over a source that may answer these texts and may lack these resources, with a state that may
--- have this and may fail so, and another file of that kind
+-- have these notes and fail with these faults, and another file of that kind
 abbrev pub RunsWith : (Resource → Bytes → Type 0) → (Resource → Type 0) → (Option Bytes → Type 0) → (FetchFault → Type 0) → Policy → FetchRequest → Passage → Result (Unit {0}) FetchFault → Type 0
 RunsWith answers lacks has fails policy what o (Ok done) =
     HasFetched (record { may_have = has; has_kept = λ note. Unit {0} }) (record { may_have = has; has_kept = λ note. Unit {0} }) policy what o
 RunsWith answers lacks has fails policy what o (Err fault) =
     RefusesFetch (grounds_of answers lacks has fails) (grounds_of answers lacks has fails) policy what fault o
 
--- the same, with the state that the options tell
+-- the same, with the state that the options name
 abbrev pub RunsOver : (Resource → Bytes → Type 0) → (Resource → Type 0) → Policy → FetchOptions → Passage → Result (Unit {0}) FetchFault → Type 0
 RunsOver answers lacks policy options o result =
     RunsWith answers lacks (may_have options.state) (state_fails options.state) policy options.wanted o result
 
--- the same end of a run, or one by a fault that says more of what was not available
+-- the same outcome of a run, or a fault that says more of what was not available
 abbrev pub Renames : Result (Unit {0}) FetchFault → Result (Unit {0}) FetchFault → Type 0
 Renames (Ok done) (Ok again) = Unit {0}
 Renames (Ok done) (Err other) = ⊥

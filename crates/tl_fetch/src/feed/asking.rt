@@ -1,4 +1,4 @@
-//! Asking a policy's witnesses about a log's checkpoint.
+//! Asks a policy's witnesses about a log's checkpoint.
 
 ghost use Rattle.std.specs.Prelude.{map};
 ghost use Rattle.tl_fetch.specs.Trusting.{IsNoteOf, alone, policy_of};
@@ -10,20 +10,20 @@ use tl_device::DeviceFault;
 use tl_feed::{AsksWitness, Proposed, Unasked, line_of};
 use tl_note::Verifier;
 
-/// Who asks the witnesses of a policy, and is told why one gave no cosignature. Their places are counted from 0, and keys
-/// of one name, one after another, are of one place.
+/// Asks the witnesses of a policy, and reports why one gave no cosignature. Witnesses are counted from 0; the keys of
+/// one name that follow one another are one witness's.
 pub trait AsksWitnesses {
-    /// Who asks one witness. What it may be asked, `AsksWitness` says.
+    /// Asks one witness. `AsksWitness` says what.
     type Asker: AsksWitness + Drop;
 
-    /// Who asks the witness at this place. None: it can't be asked.
+    /// Returns what asks the witness with this index, or None if it can't be asked.
     fn asker(&self, place: usize) -> Option<Self::Asker>;
 
-    /// Tells why the witness at this place gave no cosignature.
+    /// Reports why the witness with this index gave no cosignature.
     fn tell(&mut self, place: usize, why: Unasked);
 }
 
-// The line by which the witness at this place, which has these keys, cosigns a note.
+// Returns the line by which the witness with this index, which has these keys, cosigns a note.
 fn line_at<S: ResourceSource, Q: AsksWitnesses>(
     alloc: Global,
     source: &S,
@@ -53,7 +53,8 @@ fn line_at<S: ResourceSource, Q: AsksWitnesses>(
     line_of(alloc, source, &proposed, &mut known, &mut asker, keys)
 }
 
-/// The line by which the witness at this place, which has these keys, cosigns a note, where it does; else why is told.
+/// Returns the line by which the witness with this index, which has these keys, cosigns a note, or reports why it
+/// doesn't.
 pub(crate) fn line_by<S: ResourceSource, Q: AsksWitnesses>(
     alloc: Global,
     source: &S,

@@ -35,10 +35,11 @@ use tl_source::{FullSource, NamesLack};
 /// The options of `feed`.
 #[derive(Drop)]
 pub struct FeedOptions {
-    /// Where the log is, its key, the witnesses' keys, how many of them must cosign, the file of the state, and how
-    /// many seconds one answer may take, as `fetch` has them. No cache is used, and nothing else is wanted.
+    /// Where the log is, its keys, the witnesses' keys, how many of them must cosign, the file of the state, and how
+    /// many seconds one answer may take, as `fetch` has them. `cache`, `threads` and `wanted` aren't used.
     pub log: FetchOptions,
-    /// The addresses of the witnesses, in the order of their keys: keys with one name, one after another, are one's.
+    /// The addresses of the witnesses, in the order of their keys, one for the keys of one name that follow one
+    /// another.
     pub to: Vec<String>,
 }
 
@@ -92,7 +93,7 @@ fn feed_with_state<H: Files<File = File>, S: ResourceSource, Q: AsksWitnesses, W
     }
 }
 
-// Brings the checkpoint of the log that is named before the witnesses.
+// Brings the checkpoint of the log that the options name before the witnesses.
 fn feed_as_asked<'s, H: Files<File = File> + Net<Stream = TcpStream> + Clock, W: Write, E: Write>(
     rt: &'s H,
     alloc: Global,
@@ -125,7 +126,7 @@ fn feed_as_asked<'s, H: Files<File = File> + Net<Stream = TcpStream> + Clock, W:
     with_lack(outcome, source.lack())
 }
 
-// The same, where the policy is the one that the options tell.
+// Feeds as `feed_as_asked` does, under the policy that the options describe.
 fn feed_as_told<'s, H: Files<File = File> + Net<Stream = TcpStream> + Clock, W: Write, E: Write>(
     rt: &'s H,
     alloc: Global,
@@ -145,7 +146,7 @@ fn feed_as_told<'s, H: Files<File = File> + Net<Stream = TcpStream> + Clock, W: 
     }
 }
 
-// The same by the keys of a log, one or two.
+// Feeds by the keys of a log, one or two.
 fn feed_by<'s, H: Files<File = File> + Net<Stream = TcpStream> + Clock, W: Write, E: Write>(
     rt: &'s H,
     alloc: Global,
@@ -188,9 +189,9 @@ fn feed_by<'s, H: Files<File = File> + Net<Stream = TcpStream> + Clock, W: Write
     feed_as_told(rt, alloc, &policy, options, writer, errors)
 }
 
-/// `feed`: reads the keys of the log, one or two, and of the witnesses (C2SP signed-note, "Verifier keys"), and brings
-/// the checkpoint of the log, which is read from a folder or over HTTP, before each witness, as `feed_under` does. Why
-/// a witness gave no cosignature is told on `errors`, a line each.
+/// Runs the command `feed`. It reads the verifier keys of the log, one or two, and of the witnesses (C2SP
+/// signed-note, "Verifier keys"), and brings the checkpoint of the log, read from a folder or over HTTP, before each
+/// witness as `feed_under` does. It prints to `errors` a line for each witness that gave no cosignature.
 pub fn run_feed<'s, H: Files<File = File> + Net<Stream = TcpStream> + Clock, W: Write, E: Write>(
     rt: &'s H,
     alloc: Global,

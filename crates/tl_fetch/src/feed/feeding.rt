@@ -1,4 +1,4 @@
-//! Bringing a log's checkpoint before witnesses, from any source, whoever asks and whoever keeps the state.
+//! Brings a log's checkpoint from any source before witnesses.
 
 ghost use Rattle.std.specs.Prelude.{◌++◌, ◌≡◌, ◌⊎◌, ◌↔◌, ◌<◌, ◌≤◌, length, IfErr, IfOk, IsTrue, OnErr, OnOk, map, option_map, string_bytes};
 ghost use Rattle.tl_hash.specs.Bytes.{Bytes};
@@ -25,14 +25,14 @@ use tl_device::Counted;
 use tl_note::Verifier;
 use tl_run::{RunFault, print_text};
 
-// Whether two keys are of one witness: they have one name.
+// Reports whether two keys are one witness's: they have one name.
 fn are_one(one: &Box<dyn Verifier>, other: &Box<dyn Verifier>) -> bool
     ensures { IsTrue result ↔ ((key one.now).name ≡ (key other.now).name) }
 {
     one.name() == other.name()
 }
 
-// Where the keys of the witness end whose first key stands at this place.
+// Returns where the keys of the witness end whose first key is at `start`.
 fn end_of(witnesses: &[Box<dyn Verifier>], start: usize) -> usize
     requires { start < length witnesses.now }
     ensures more { start < result }
@@ -48,7 +48,7 @@ fn end_of(witnesses: &[Box<dyn Verifier>], start: usize) -> usize
     witnesses.len()
 }
 
-// The note, and behind it the lines of all witnesses that cosign it.
+// Returns the note, and behind it the lines of all witnesses that cosign it.
 fn with_lines<S: ResourceSource, Q: AsksWitnesses>(
     alloc: Global,
     source: &S,
@@ -79,7 +79,7 @@ fn with_lines<S: ResourceSource, Q: AsksWitnesses>(
     Ok(text)
 }
 
-// The note as enough witnesses cosigned it.
+// Returns the note with the lines of the witnesses, if enough of them cosigned it.
 fn cosigned<S: ResourceSource, Q: AsksWitnesses>(
     alloc: Global,
     source: &S,
@@ -113,7 +113,7 @@ fn cosigned<S: ResourceSource, Q: AsksWitnesses>(
     Ok(text)
 }
 
-// Keeps the new note, and prints it as enough witnesses cosigned it.
+// Keeps the new note, and prints it with the lines of the witnesses, if enough of them cosign it.
 fn keep_and_feed<S: ResourceSource, K: TrustStore, Q: AsksWitnesses, W: Write>(
     alloc: Global,
     source: &S,
@@ -160,11 +160,11 @@ fn keep_and_feed<S: ResourceSource, K: TrustStore, Q: AsksWitnesses, W: Write>(
     Ok(())
 }
 
-/// Brings the checkpoint of the log of this policy before its witnesses (C2SP tlog-witness): the source's has to be
-/// signed by the log, and to go on from the state's by a consistency proof that is accepted. It is kept then, and each
-/// witness is asked with the proof from the size that it has. The note is printed with the lines of all that cosigned
-/// it, if they are as many as the policy needs; else `TooFew`. If the log forked, evidence is printed: the state's note,
-/// the new one, and what shows it.
+/// Brings the checkpoint of the log of this policy before its witnesses (C2SP tlog-witness). The log has to have
+/// signed it, and it has to extend the state's by an accepted consistency proof. It is kept, and each witness is
+/// asked with a proof from the size that it has. The note is printed with the lines of all that cosigned it, if they
+/// are as many as the policy needs; else it fails with `TooFew`. If the log forked, it prints evidence: both notes,
+/// and what shows the fork.
 pub fn feed_under<S: ResourceSource, K: TrustStore, O: Observer, Q: AsksWitnesses, W: Write>(
     alloc: Global,
     source: &S,

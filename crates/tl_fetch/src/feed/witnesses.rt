@@ -17,7 +17,7 @@ use tl_feed::{HttpWitness, Unasked};
 use tl_run::{RunFault, print_text};
 use tl_source::Url;
 
-// The address that the text at this place is, if it is one over HTTP.
+// Returns the address that the text at `place` is, if it is one over HTTP.
 fn address_at(texts: &[String], place: usize) -> Option<Url<'_>>
     requires { place < length texts.now }
     ensures { MatchOption result
@@ -27,7 +27,7 @@ fn address_at(texts: &[String], place: usize) -> Option<Url<'_>>
     Url::parse(texts[place].as_str())
 }
 
-/// The addresses that these texts are. `BadAddress` has the place of the first that is none over HTTP.
+/// Returns the addresses that these texts are. It fails with `BadAddress` of the first that isn't one over HTTP.
 pub(crate) fn addresses(alloc: Global, texts: &[String]) -> Result<Vec<Url<'_>>, FetchFault>
     ensures read { IfOk result
         (λ urls. AllZip IsAddressOf (map string_bytes texts.now) urls.items) }
@@ -45,8 +45,8 @@ pub(crate) fn addresses(alloc: Global, texts: &[String]) -> Result<Vec<Url<'_>>,
     Ok(urls)
 }
 
-/// The witnesses at these addresses, each asked by a connection of its own that has to end in time, and standard error,
-/// which is told why one gave no cosignature.
+/// The witnesses at these addresses, each asked over a connection of its own within a time limit, and standard error,
+/// which gets a line for each that gave no cosignature.
 #[derive(Drop)]
 pub(crate) struct HttpWitnesses<'w, H, E> {
     pub(crate) rt: &'w H,
@@ -57,7 +57,7 @@ pub(crate) struct HttpWitnesses<'w, H, E> {
 }
 
 impl<H: Net<Stream = TcpStream> + Clock, E: Write> HttpWitnesses<'_, H, E> {
-    // Tells why a witness gave no cosignature.
+    // Prints why a witness gave no cosignature.
     fn tell_why(&mut self, place: usize, why: Unasked) -> Result<(), FetchFault> {
         let line = format!(in self.alloc; "tlog: witness {place}: {why}\n")?;
         print_text(self.errors, line.as_bytes())?;

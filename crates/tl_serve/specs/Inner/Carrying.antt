@@ -55,7 +55,7 @@ Counts Takes a b e =
     (answer : Result ℕ RunFault) × Takes a.log b.log answer
     × (b ≡ record a { log = b.log; taken = taken_after a.taken answer }) × (e ≡ count_event answer)
 
--- a round of the lanes: if it isn't said how many entries are taken of each at most, as many as are left to a batch
+-- a round of the lanes: if no most is given for a lane, it is as many entries as are left to a batch
 abbrev pub CountsRound : {O A : Type 0} → (O → Log A) → ℕ → Running O → Running O → Event RunFault → Type 0
 CountsRound log_of left a b e =
     Counts (λ x y answer. TakesRound a.rounds.lanes (unwrap_or a.rounds.most left) (log_of x) (log_of y) answer) a b e
@@ -111,7 +111,7 @@ is_own _ = true
 
 -- given what the calls of a log, of a feed and of a writer say
 module _ {O F L A : Type 0} (log_of : O → Log A) (Shows : O → O → Result Bool RunFault → Type 0) (Heads : O → O → Option Head → Type 0) (Gives : F → F → Event RunFault → Type 0) (contents : L → Option (List ℕ)) where
-  -- what is done in a step, if this many entries are left to a batch, and the event that comes of it
+  -- what is done in a step, if this many entries are left to a batch, and the event that follows
   abbrev pub Does : Step RunFault → ℕ → Moment O F L → Moment O F L → Event RunFault → Type 0
   Does step.Wait left m n e = (n ≡ record m { feed = n.feed }) × Gives m.feed n.feed e
   Does step.Take left m n e = (n ≡ record m { running = n.running }) × CountsRound log_of left m.running n.running e
@@ -129,7 +129,7 @@ module _ {O F L A : Type 0} (log_of : O → Log A) (Shows : O → O → Result B
   Carries publish_loop m n (Some e) = Does (step_of publish_loop.doing) publish_loop.left m n e
   Carries publish_loop m n None = (is_own (step_of publish_loop.doing) ≡ false) × (n ≡ m)
 
-  -- the steps that a loop comes to by these events were carried out, one after another, and these events came of them
+  -- the steps that a loop takes by these events were carried out, one after another, and these events followed
   abbrev pub DoesAll : PublishLoop RunFault → List (Event RunFault) → Moment O F L → Moment O F L → Type 0
   DoesAll publish_loop [] m n = n ≡ m
   DoesAll publish_loop (e ∷ more) m n =

@@ -1,4 +1,4 @@
--- Lines that wait for a writer: what a thread that waits for one is to do.
+-- Lines that wait for a writer: what a thread that waits for one has to do.
 use Rattle.std.specs.Prelude.{◌≡◌, ℕ, true, false, [], Some, slice_get}
 use Rattle.tl_serve.specs.declared.queue.Waiting.{Waiting}
 use Rattle.tl_serve.specs.declared.queue.Kept.{Kept}

@@ -1,4 +1,4 @@
--- A running log on a shelf: what came of its lanes is put behind what the shelf had.
+-- A running log on a shelf: what its lanes gave is put behind what the shelf had.
 use Rattle.std.specs.Prelude.{◌≡◌, ◌⊎◌, Bool, true, false, List, [], ◌∷◌, ◌++◌, Option, Some, None, Result, Ok, Err}
 use Rattle.sha2.specs.Sha256.{sha256}
 use Rattle.tl_hash.specs.Bytes.{Bytes}
@@ -35,7 +35,7 @@ Seals key q c a b (Ok true) = ShowsBatch key q a.waiting c × (b.drained ≡ a.l
 Seals key q c a b (Ok false) = (a.waiting ≡ []) × (b ≡ a) × (c.is ≡ c.was) × (c.after ≡ c.before) × (c.sees ≡ c.saw)
 Seals key q c a b (Err told) = ShowsAtMost key q a.waiting c × (b.log ≡ a.log)
 
--- size and root of the log that the ledger is of
+-- the size and the root of the ledger's log
 abbrev pub IsHeadOf : Ledger → Option Head → Type 0
 IsHeadOf ledger None = ⊥
 IsHeadOf ledger (Some head) =

@@ -1,4 +1,4 @@
--- What a witness that starts has of its state. H is the digest function.
+-- What a witness that starts has of its state. `H` is the digest function.
 use Rattle.std.specs.Prelude.{◌≡◌, ℕ, ◌⊎◌, List, Option, Result, Ok, Err, String, map, vec_items}
 use Rattle.std.specs.declared.vec.Vec.{Vec}
 use Rattle.tl_hash.specs.Bytes.{Bytes, Digest}
@@ -23,7 +23,7 @@ pub record HaveState (H : Digest) (logs : Option (List Log)) (p : Passage) (chai
   pub known : KnowsHeads H (of_logs logs) p heads
   pub same : chains ≡ map in_one_step heads
 
--- they don't, for the reason that the state can't be read, or since memory ran out
+-- the chains lack: the state can't be read, for this reason, or memory ran out
 abbrev pub LackState : Digest → Option (List Log) → Passage → RunFault → Type 0
 LackState H logs p fault = (fault ≡ OutOfMemory) ⊎ ((why : StateFault) × (fault ≡ by_state why) × RefusesState H logs p why)
 
@@ -35,7 +35,7 @@ pub record HaveLines (p : Passage) (saved : List SavedChain) : Type 0 where
   pub whole : ReadWhole p most_input input
   pub chains : AreChainsOf input saved
 
--- what the reader gives isn't lines of links, and the line at this place is the first that is none
+-- what the reader gives isn't lines of links, and the line with this index is the first that is none
 pub record LackLine (p : Passage) (place : ℕ) : Type 0 where
   pub input : Bytes
   pub whole : ReadWhole p most_input input

@@ -2,7 +2,7 @@ use Rattle.std.proofs.Common.{◌≤◌, length, take}
 use Rattle.tl_command.specs.Inner.Cuts.{AreWholeLines}
 use Rattle.tl_command.proofs.text.lines_end.Given as goal
 
--- so many lines stand before the place
+-- this many lines stand before the place
 abbrev pub invariant-loop-line : goal.invariant-loop-line
 invariant-loop-line l = record {
   within : l.at ≤ length l.text;

@@ -9,8 +9,8 @@ use std::alloc::{Allocator, Global};
 use std::thread::Threads;
 use tl_run::{LogSigner, RunFault, sign_checkpoint};
 
-/// The note of the checkpoint of the log of these lines, signed by the log's key. Up to `threads` threads hash, with
-/// memory from `workers`.
+/// Returns the note of the checkpoint of the log of these lines, signed by the log's key. Up to `threads` threads
+/// hash, with memory from `workers`.
 pub(crate) fn checkpoint_note_of<
     H: Threads + Sync,
     K: LogSigner,

@@ -1,4 +1,4 @@
-//! The listing of the resources of a log: the path and the length of each, which takes none of their bytes.
+//! The listing of the resources of a log: the path and the length of each, found without making its bytes.
 
 ghost use Rattle.std.specs.Prelude.{◌≡◌, ◌*◌, ◌<◌, ◌≤◌, ◌^◌, ◌++◌, ◌∷◌, All, List, length, string_bytes, Contains, IfErr, IfOk, OnOk};
 ghost use Rattle.sha2.specs.Sha256.{sha256};
@@ -17,7 +17,7 @@ use tl_hash::Hash;
 use tl_run::{LogSigner, RunFault, sign_checkpoint};
 use tl_tile::{Resource, needed, path_of};
 
-/// The resources of a log of so many entries: those that it needs, and then the checkpoint.
+/// Returns the resources of a log of this many entries: those that it needs, and then the checkpoint.
 pub(crate) fn mirrored_of<A: Allocator>(alloc: A, size: u64) -> Result<Vec<Resource, A>, AllocError>
     requires { size < 2 ^ 32 }
     ensures { IfOk result (λ resources. resources.items ≡ mirrored size) }
@@ -27,7 +27,8 @@ pub(crate) fn mirrored_of<A: Allocator>(alloc: A, size: u64) -> Result<Vec<Resou
     Ok(resources)
 }
 
-// The number of bytes of a resource of a log whose bundles have these lengths, where this is the checkpoint's note.
+// Returns the number of bytes of a resource of a log whose bundles have these lengths and whose checkpoint is this
+// note.
 fn resource_length(resource: Resource, lengths: &[u64], note: &str) -> u64
     requires { HasLength lengths.now resource }
     ensures { (entries : List Bytes)
@@ -43,7 +44,7 @@ fn resource_length(resource: Resource, lengths: &[u64], note: &str) -> u64
     }
 }
 
-// Adds the line of a resource with so many bytes.
+// Appends the line of a resource that has this many bytes.
 fn push_line<A: Allocator + Copy>(
     alloc: A,
     out: &mut String<A>,
@@ -61,7 +62,7 @@ fn push_line<A: Allocator + Copy>(
     Ok(())
 }
 
-// The line of each of these resources of a log whose bundles have these lengths, and whose checkpoint's note this is.
+// Returns the lines of these resources of a log whose bundles have these lengths and whose checkpoint is this note.
 fn lines_of<A: Allocator + Copy>(
     alloc: A,
     resources: &[Resource],
@@ -82,9 +83,9 @@ fn lines_of<A: Allocator + Copy>(
     Ok(out)
 }
 
-/// The listing of a log of `size` entries with this root, whose bundles have these lengths: the path and the length of
-/// each of its resources, the checkpoint last. The checkpoint's note is signed by the log's key, which takes its memory
-/// from `global`. It fails for want of memory alone.
+/// Returns the listing of a log of `size` entries with this root, whose bundles have these lengths: the path and the
+/// length of each of its resources, the checkpoint last. The log's key signs the checkpoint, with memory from
+/// `global`. It fails only if allocation fails.
 pub(crate) fn listing_of<K: LogSigner, A: Allocator + Copy>(
     alloc: A,
     global: Global,

@@ -13,8 +13,8 @@ use std::thread::Threads;
 use tl_run::RunFault;
 use tl_tile::{BundleFault, Tile, write_bundle};
 
-/// The bytes of a tile that lies within the lines: its hashes, each the root of the lines under it, hashed by so many
-/// threads. No other line is hashed.
+/// Returns the bytes of a tile that lies within the lines: its hashes, each the root of the lines under it. No other
+/// line is hashed. Up to `threads` threads hash, with memory from `workers`.
 pub(crate) fn tile_of<H: Threads + Sync, A: Allocator, B: Allocator + Copy + Send>(
     rt: &H,
     alloc: A,
@@ -40,7 +40,7 @@ pub(crate) fn tile_of<H: Threads + Sync, A: Allocator, B: Allocator + Copy + Sen
     Ok(bytes)
 }
 
-// The lines of the bundle of this index and width.
+// Returns the lines of the bundle with this index and width.
 fn bundled<'a>(index: u64, width: u32, lines: &LogLines<'a>) -> LogLines<'a>
     requires few { index * 256 < 2 ^ 64 }
     ensures { result ≡ take width (drop (index * 256) lines.now) }
@@ -50,7 +50,7 @@ fn bundled<'a>(index: u64, width: u32, lines: &LogLines<'a>) -> LogLines<'a>
     bundle
 }
 
-// A bundle of entries that aren't too long can be written but for want of memory.
+// Returns the only fault that writing a bundle of entries which aren't too long can have: allocation failed.
 fn only_memory(fault: BundleFault) -> RunFault
     requires { fault ≡ BundleFault.OutOfMemory }
     ensures { result ≡ RunFault.OutOfMemory }
@@ -61,8 +61,8 @@ fn only_memory(fault: BundleFault) -> RunFault
     }
 }
 
-/// The entry bundle of this index and width, which lies within the lines: no others are copied. It fails for want of
-/// memory alone.
+/// Returns the entry bundle with this index and width, which lies within the lines, and copies no other lines. It
+/// fails only if allocation fails.
 pub(crate) fn bundle_of<A: Allocator + Copy>(
     alloc: A,
     index: u64,

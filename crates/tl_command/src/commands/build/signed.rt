@@ -21,13 +21,13 @@ pub struct SignedOptions {
     pub key: String,
     /// The path of the one resource to print; without it, the listing of all of them.
     pub get: Option<String>,
-    /// How many threads hash at once, 1 at least; without it, as many as the machine has.
+    /// How many threads hash at once, at least 1; without it, as many as the machine has.
     pub threads: Option<u16>,
 }
 
-/// `build`, signed by the private key whose text the bytes are (`tl_key::read_signer_key`), with a newline after it or
-/// without: a key of notes, whose name is the origin. Bytes of no such key are `BadKeyFile`, a key of another name
-/// is `BadOrigin`, both before anything is read.
+/// Runs `build` as `run_build` does, signed by the private key whose text the bytes are, with or without a newline at
+/// its end (`tl_key::read_signer_key`). It is a key of notes, and its name is the origin. It fails before it reads,
+/// with `BadKeyFile` if the bytes are no such key's, and with `BadOrigin` if the key has another name.
 pub fn run_build_signed<
     H: Threads + Sync,
     A: Allocator + Copy,

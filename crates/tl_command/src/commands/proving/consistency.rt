@@ -1,4 +1,4 @@
-//! The consistency proof for the first lines, by the recursion of RFC 6962, section 2.1.2.
+//! The consistency proof from the first lines to all, by the recursion of RFC 6962, section 2.1.2.
 
 ghost use Rattle.std.specs.Prelude.{◌≡◌, ◌<◌, ◌≤◌, [], ◌∷◌, ◌++◌, length, vec_items, if◌then◌else◌, IfOk};
 ghost use Rattle.tl_command.specs.ProofShown.{consistency_shown};
@@ -11,7 +11,7 @@ use std::alloc::{AllocError, Allocator};
 use std::thread::Threads;
 use tl_hash::{Hash, Sha256Tree, empty_hash, node_hash, split_point};
 
-// The subproof of a tree all of whose lines are old: its hash, where the verifier hasn't got it.
+// Returns the subproof of a tree whose lines are all old: its hash, unless the verifier has that.
 fn whole_tree<A: Allocator>(
     alloc: A,
     size: u64,
@@ -39,15 +39,15 @@ fn whole_tree<A: Allocator>(
     })
 }
 
-// The roots of two trees: of the old lines, and of all of them.
+// The roots of two trees: of the old lines, and of all lines.
 #[derive(Clone, Copy)]
 struct Roots {
     old: Hash,
     all: Hash,
 }
 
-// The subproof for the first `old` of `size` lines, from that in one part of the tree: the root of the other part goes
-// to its end.
+// Returns the subproof for the first `old` of `size` lines, from that in one part of the tree: it appends the root of
+// the other part.
 fn led_past<A: Allocator>(
     part: ConsistencyProof<A>,
     other: Hash,
@@ -74,8 +74,9 @@ fn led_past<A: Allocator>(
     })
 }
 
-// SUBPROOF for the first `old` lines, with the roots that it leads to. `is_known` says whether the verifier has the
-// tree's hash where all its lines are old. Each line is hashed once. As many calls stand at once as for a path.
+// Returns SUBPROOF for the first `old` lines, with the roots that it leads to. `is_known` says whether the verifier
+// has the hash of the tree if all its lines are old. Each line is hashed once. The recursion is as deep as that of a
+// path.
 fn subproof_over<H: Threads + Sync, A: Allocator + Copy, B: Allocator + Copy + Send>(
     rt: &H,
     alloc: A,
@@ -114,7 +115,7 @@ fn subproof_over<H: Threads + Sync, A: Allocator + Copy, B: Allocator + Copy + S
     led_past(part, other, old, size, roots)
 }
 
-/// The consistency proof for the first `old` lines: SUBPROOF where there are some, and no hash where there are none.
+/// Returns the consistency proof for the first `old` lines: SUBPROOF if there are any, and no hash if there are none.
 pub(crate) fn consistency_over<H: Threads + Sync, A: Allocator + Copy, B: Allocator + Copy + Send>(
     rt: &H,
     alloc: A,

@@ -10,7 +10,7 @@ use std::alloc::{AllocError, Allocator};
 use std::thread::Threads;
 use tl_hash::{Hash, Sha256Tree, node_hash, split_point};
 
-// The proof of an only line: its leaf hash is the root.
+// Returns the proof of a line that is the only one: its leaf hash is the root.
 fn only_line<A: Allocator>(alloc: A, leaf: Hash) -> InclusionProof<A>
     ensures { inclusion_shown result
         ≡ record { index = 0; size = 1; leaf = leaf; root = leaf; proof = [] } }
@@ -24,8 +24,8 @@ fn only_line<A: Allocator>(alloc: A, leaf: Hash) -> InclusionProof<A>
     }
 }
 
-// The proof of the line at `index` among `size`, from its proof in one part of the tree: the root of the other part
-// goes to its end.
+// Returns the proof of the line at `index` among `size`, from its proof in one part of the tree: it appends the root
+// of the other part.
 fn led_past<A: Allocator>(
     part: InclusionProof<A>,
     other: Hash,
@@ -53,9 +53,9 @@ fn led_past<A: Allocator>(
     })
 }
 
-/// The inclusion proof of the line at this index: PATH in the part of the tree that has it, and the root of the other
-/// part. Each line is hashed once. A tree of 2^26 leaves, which 64 MiB hold, has 26 nodes on a path, so no more than 27
-/// calls stand at once.
+/// Returns the inclusion proof of the line at this index: PATH in the part of the tree that has it, and the root of
+/// the other part. Each line is hashed once. A tree of 2^26 leaves, the most that 64 MiB hold, has paths of 26 nodes,
+/// so at most 27 calls are nested.
 pub(crate) fn inclusion_over<H: Threads + Sync, A: Allocator + Copy, B: Allocator + Copy + Send>(
     rt: &H,
     alloc: A,

@@ -4,7 +4,7 @@ use Rattle.tl_sequencer.specs.Log.{IsSenderOf, entries_of}
 use Rattle.tl_publisher.specs.Operating.{IsOperating}
 use Rattle.tl_rows.proofs.running.run_steps.Goals as goal
 
--- what comes back from a close that was refused is the operator as it was
+-- a close that fails returns the operator as it was
 pub loop-place-preserved-then-eq-2 : goal.loop-place-preserved-then-eq-2
 loop-place-preserved-then-eq-2 g c =
     subst (λ o. IsOperating (record {
