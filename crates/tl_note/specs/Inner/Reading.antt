@@ -29,10 +29,10 @@ pub record AreSignatureLines (bytes : Bytes) (lines : List Signature) : Type 0 w
   pub few : length lines ≤ 100
   pub whole : bytes ≡ flat_map signature_line lines
 
--- the bytes are so many lines
+-- the bytes are this many lines
 abbrev pub HasSignatureLines : Bytes → ℕ → Type 0
 HasSignatureLines bytes count = (lines : List Signature) × AreSignatureLines bytes lines × (length lines ≡ count)
 
--- the bytes are no lines, or too many
+-- the bytes are not 1 to 100 lines
 abbrev pub HasNoSignatureLines : Bytes → Type 0
 HasNoSignatureLines bytes = (lines : List Signature) → AreSignatureLines bytes lines → ⊥
