@@ -1,8 +1,15 @@
-//! Entries of many submitters, put into one log. Each submitter has a lane, a ring of its own, and no call waits or
-//! takes a lock.
+//! One log from the entries of many submitters.
 //!
-//! ```
-//! let (mut log, mut submitters) = open(alloc, 1, 16, 1000)?;
+//! A log gives each entry an index, and entries come from many threads at once. Here each submitter has a lane, which
+//! is a ring without locks, and one thread takes entries from the lanes. No call waits: a full ring is reported, and
+//! so is an empty one. However they are taken, each submitter's entries are in the log once, and in the order in
+//! which it sent them.
+//!
+//! A `Sequencer` keeps the whole log in memory. A lane ends when its `Submitter` is closed and the `Ended` that this
+//! returns is taken in. Once all lanes have ended, the log can be closed, and has all that was sent:
+//!
+//! ```rust
+//! let (mut log, mut submitters) = open(alloc, 1, 16, 1000)?; // one lane, a ring of 16, at most 1,000 entries
 //! let mut submitter = submitters.pop().unwrap();
 //! assert_eq!(submitter.submit(cat), Ok(0));
 //! assert_eq!(submitter.submit(dog), Ok(1));
@@ -11,15 +18,16 @@
 //! assert_eq!(log.close()?.len(), 2);
 //! ```
 //!
-//! A log whose entries are on a disk needs no list in memory: what an intake takes waits until it is there.
+//! An `Intake` is for a log that is stored elsewhere, such as on a disk. It keeps only the entries that aren't stored
+//! yet:
 //!
-//! ```
+//! ```rust
 //! let (mut intake, mut submitters) = Intake::open(alloc, 700, 1, 16, 1000)?; // 700 entries are on the disk
 //! let mut submitter = submitters.pop().unwrap();
 //! assert_eq!(submitter.submit(cat), Ok(0));
 //! assert_eq!(intake.take(0, 16), Ok(1)); // it waits
 //! put_on_disk(intake.waiting())?;
-//! intake.drain(); // and is let go
+//! intake.drain(); // and is dropped here
 //! intake.end(submitter.close().unwrap())?;
 //! assert_eq!(intake.completed(), Ok(1)); // one entry was taken in all
 //! ```
