@@ -75,7 +75,7 @@ impl<A: Allocator + Copy> Lines<A> {
     }
 
     /// Reads a block, if nothing is left of the last one. Reports whether the input goes on. If the read fails,
-    /// nothing changes here.
+    /// `self` doesn't change.
     pub fn fill<R: Read>(&mut self, reader: &mut Counted<R>) -> Result<bool, LineFault>
         ensures uncut { 0 < length self.old.waiting
             → (result ≡ Ok true) × (self.new ≡ self.old) × (reader.new ≡ reader.old) }

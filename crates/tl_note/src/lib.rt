@@ -10,8 +10,8 @@
 //! — example.com/log <base64 of the key's identifier and the signature>
 //! ```
 //!
-//! `sign_note` signs a text with the keys of signers. `open_note` reads a note and verifies it by the keys of
-//! verifiers. It opens only if some known key signed it, and no signature of a known key is wrong. Lines of other
+//! `sign_note` signs a text with the keys of signers. `open_note` reads a note and verifies it with the keys of
+//! verifiers. It opens if some known key signed it, and the first line of each known key is valid. Lines of other
 //! keys are reported as `unverified`, and don't matter. Keys are objects with the traits `Signer` and `Verifier`.
 //! `tl_key` has Ed25519 keys:
 //!

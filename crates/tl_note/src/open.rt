@@ -53,9 +53,9 @@ pub fn open_note<'m, A: Allocator + Copy>(
 /// has its key and no earlier line has the same key. The note opens if some line counts, and for each line that
 /// counts one verifier has the key and accepts the signature.
 ///
-/// The first line that counts and isn't so decides: it fails with `Ambiguous` if two verifiers have the line's key,
-/// and with `InvalidSignature` if the signature isn't valid. It fails with `Unverified` if no line counts. Nothing is
-/// allocated if there is no line, or if two verifiers have the first line's key.
+/// The first line that counts and has a fault decides: `Ambiguous` if two verifiers have its key, `InvalidSignature`
+/// if its signature isn't valid. It fails with `Unverified` if no line counts. Nothing is allocated if there is no
+/// line, or if two verifiers have the first line's key.
 pub fn verify_note<'m, A: Allocator + Copy>(
     alloc: A,
     note: NoteView<'m, A>,

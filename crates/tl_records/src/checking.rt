@@ -20,7 +20,7 @@ pub struct InclusionClaim<'a> {
     pub proof: &'a [Hash],
 }
 
-// A leaf of a tree of `size` leaves, its index and its hash: one of four proofs is followed to it.
+// The leaf that a proof is about: its index in a tree of `size` leaves, and its hash.
 #[derive(Clone, Copy)]
 struct ClaimWalk {
     index: u64,
@@ -28,7 +28,7 @@ struct ClaimWalk {
     leaf: Hash,
 }
 
-// The leaves of four proofs.
+// The leaves that four proofs are about.
 #[derive(Clone, Copy)]
 struct Lanes {
     a: ClaimWalk,
@@ -162,7 +162,7 @@ fn accepts_each<T: TreeHash>(h: T, size: u64, root: Hash, records: &[InclusionCl
         .all(|claim| accepts_one(h, size, root, claim))
 }
 
-// Returns the leaf that one claim is about.
+// Returns the leaf that a claim is about.
 fn lane_of(size: u64, claim: &InclusionClaim<'_>) -> ClaimWalk
     ensures index { result.index ≡ claim.now.index }
     ensures size { result.size ≡ size }

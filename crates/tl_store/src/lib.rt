@@ -17,7 +17,7 @@
 //! assert!(hashes[1] == tree_hash(alloc, Sha256Tree, 2, &store)?);
 //! ```
 //!
-//! A reader never answers for more than 2^62 entries, and a `HashStore` takes up to 2^32 - 1.
+//! A reader has at most 2^62 entries, and a `HashStore` takes up to 2^32 - 1.
 #![tactic(auto)]
 
 mod head;

@@ -53,7 +53,7 @@ pub(crate) fn push_higher<T: TreeHash, A: Allocator>(
     }
 }
 
-// Adds the entry after the first `size`.
+// Adds one entry to the hashes of `size` entries.
 pub(crate) fn push_entry<T: TreeHash, A: Allocator>(
     h: T,
     hashes: &mut Vec<Hash, A>,
@@ -72,7 +72,7 @@ pub(crate) fn push_entry<T: TreeHash, A: Allocator>(
     push_higher(h, hashes, size + 1, 0, leaf);
 }
 
-// Adds the entries after the first `size`, one by one.
+// Adds entries to the hashes of `size` entries, one by one.
 fn push_singly<T: TreeHash, A: Allocator, B: Allocator>(
     h: T,
     hashes: &mut Vec<Hash, A>,
@@ -91,7 +91,7 @@ fn push_singly<T: TreeHash, A: Allocator, B: Allocator>(
     }
 }
 
-// Adds the entries after the first `size`: sixteen at a time if 4 divides `size`, and the others one by one.
+// Adds entries to the hashes of `size` entries: sixteen at a time if 4 divides `size`, and the others one by one.
 fn push_sixteens<T: TreeHash, A: Allocator, B: Allocator>(
     h: T,
     hashes: &mut Vec<Hash, A>,
@@ -116,7 +116,7 @@ fn push_sixteens<T: TreeHash, A: Allocator, B: Allocator>(
     push_singly(h, hashes, count, left);
 }
 
-/// Adds the entries after the first `size`: one by one up to a multiple of four, and then sixteen at a time.
+/// Adds entries to the hashes of `size` entries: one by one up to a multiple of four, and then sixteen at a time.
 pub(crate) fn push_entries<T: TreeHash, A: Allocator, B: Allocator>(
     h: T,
     hashes: &mut Vec<Hash, A>,

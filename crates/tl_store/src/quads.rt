@@ -108,7 +108,7 @@ fn push_known<A: Allocator>(hashes: &mut Vec<Hash, A>, known: &[Hash])
     }
 }
 
-// Adds the entries of one of four quads after the first `size` entries.
+// Adds the entries of one of four quads to the hashes of `size` entries.
 fn push_quad<T: TreeHash, A: Allocator>(
     h: T,
     hashes: &mut Vec<Hash, A>,
@@ -133,7 +133,7 @@ fn push_quad<T: TreeHash, A: Allocator>(
     push_higher(h, hashes, size + 4, 2, quad[6]);
 }
 
-/// Adds sixteen entries after the first `size`. 4 divides `size`.
+/// Adds sixteen entries to the hashes of `size` entries. 4 divides `size`.
 pub(crate) fn push_sixteen<T: TreeHash, A: Allocator, B: Allocator>(
     h: T,
     hashes: &mut Vec<Hash, A>,
