@@ -83,7 +83,7 @@ ending_is s k some is =
 
 -- ---- one subtree more
 
--- where the left part of a subtree that ends with the last of `size` entries lies
+-- the place of the left part of a subtree that ends with the last of `size` entries
 pub record HasLeftPart (size level : ℕ) : Type 0 where
   pub two : 2 ≤ size / 2 ^ level
   pub start : (size / 2 ^ level - 2) * 2 ^ level + 2 * 2 ^ level ≡ size
