@@ -50,12 +50,12 @@ pub fn open_note<'m, A: Allocator + Copy>(
 }
 
 /// Verifies the signatures of a note that was read (C2SP signed-note, "Verification"). A line counts if a verifier
-/// has its key and no earlier line has the same key. The note opens if some line counts, and for each line that
-/// counts one verifier has the key and accepts the signature.
+/// has its key and no earlier line has it. The note opens if some line counts, and each line that counts has one
+/// verifier, which accepts its signature.
 ///
 /// The first line that counts and has a fault decides: `Ambiguous` if two verifiers have its key, `InvalidSignature`
 /// if its signature isn't valid. It fails with `Unverified` if no line counts. Nothing is allocated if there is no
-/// line, or if two verifiers have the first line's key.
+/// line, or two verifiers have the first line's key.
 pub fn verify_note<'m, A: Allocator + Copy>(
     alloc: A,
     note: NoteView<'m, A>,

@@ -90,9 +90,9 @@ fn show_collision<T: TreeHash, A: Allocator + Copy, B: Allocator>(
 
 /// Audits one accepted consistency proof (RFC 6962, section 2.1.2). Returns `Extends` if the old list is a prefix of
 /// the new one, and otherwise two different byte strings with one digest that were hashed for the audit. It fails
-/// with `NotAccepted` if the proof isn't accepted from the old list's size and root to the new list's, and with
-/// `OutOfMemory` if there is no memory for the two strings. It takes at most six digests for each entry and four for
-/// each hash of the proof; its recursion is at most 64 calls deep.
+/// with `NotAccepted` if the proof isn't accepted between the sizes and roots of the lists, and with `OutOfMemory` if
+/// allocation fails. It takes at most six digests for each entry and four for each hash of the proof; its recursion
+/// is at most 64 calls deep.
 pub fn audit_tree<T: TreeHash, A: Allocator + Copy, B: Allocator>(
     alloc: A,
     h: T,

@@ -91,8 +91,8 @@ impl<T: TreeHash, S: TileSource, A: Allocator + Copy> TileHashReader<T, S, A> {
     /// Returns the stored hashes with these numbers, in order. `fetched` then holds the tiles fetched for them and no
     /// others, also after a fault (C2SP tlog-tiles, "Merkle Tree"). The numbers are checked first, and for none
     /// nothing is fetched. The partial tiles come first, from the highest level down, and must give the root; then
-    /// the full tiles over each number, from the top down, each with the hash that the tile above has. `BadTile`
-    /// names the highest partial tile if these give another root, and otherwise the last tile.
+    /// the full tiles over each number, from the top down, each with the hash in the tile above. `BadTile` names the
+    /// highest partial tile if these give another root, and otherwise the last tile.
     pub fn read_checked<B: Allocator>(
         &self,
         alloc: B,
