@@ -54,8 +54,8 @@ pub fn open_note<'m, A: Allocator + Copy>(
 /// verifier, which accepts its signature.
 ///
 /// The first line that counts and has a fault decides: `Ambiguous` if two verifiers have its key, `InvalidSignature`
-/// if its signature isn't valid. It fails with `Unverified` if no line counts. Nothing is allocated if there is no
-/// line, or two verifiers have the first line's key.
+/// if its signature isn't valid. `Unverified`: no line counts. Nothing is allocated if there is no line, or two
+/// verifiers have the first line's key.
 pub fn verify_note<'m, A: Allocator + Copy>(
     alloc: A,
     note: NoteView<'m, A>,
