@@ -16,12 +16,12 @@
 //! ```rust
 //! let text = "example.com/log\n0\n47DEQpj8HBSa+/TImW+5JCeuQeRkm5NMpJWZG3hSuFU=\n";
 //! let checkpoint = parse(alloc, text)?;
-//! assert!(checkpoint.root == empty_hash(Sha256Tree));
-//! assert_eq!(write(alloc, &checkpoint)?.as_str(), text);
+//! assert!(rt; checkpoint.root == empty_hash(Sha256Tree));
+//! assert_eq!(rt; write(alloc, &checkpoint)?.as_str(), text);
 //!
 //! let signed = sign_note(alloc, alloc, text, &[signer])?; // of tl_note
 //! let opened = open_checkpoint(alloc, signed.as_str(), &[verifier])?; // of the same key
-//! assert_eq!(opened.size, 0);
+//! assert_eq!(rt; opened.size, 0);
 //! ```
 //!
 //! A witness cosigns a checkpoint by one more line of the note, which has the time (`cosign_line`).

@@ -6,10 +6,10 @@
 //!
 //! ```rust
 //! let mut reader = Counted::new(b"two\nlines\n".as_slice());
-//! assert_eq!(read_whole(alloc, &mut reader, 100)?.len(), 10);
+//! assert_eq!(rt; read_whole(alloc, &mut reader, 100)?.len(), 10);
 //! let mut reader = Counted::new(b"two\nlines\n".as_slice());
-//! assert_eq!(read_whole(alloc, &mut reader, 9), Err(InputFault::TooLarge));
-//! assert!(!reader.failed());
+//! assert_eq!(rt; read_whole(alloc, &mut reader, 9), Err(InputFault::TooLarge));
+//! assert!(rt; !reader.failed());
 //! ```
 //!
 //! `read_plain` reads a plain file whole. A `Timed` is a connection that may take a limited time in all. A

@@ -15,7 +15,7 @@
 //! entries.push(Vec::from_slice(alloc, b"a cat")?)?;
 //! entries.push(Vec::from_slice(alloc, b"a dog")?)?;
 //! let root = entry_root(Sha256Tree, &entries);
-//! assert!(root == node_hash(Sha256Tree, cat, dog));
+//! assert!(rt; root == node_hash(Sha256Tree, cat, dog));
 //! ```
 //!
 //! `leaf_hashes`, `hash_level` and `hash_four_nodes` hash many messages. `Sha256Tree` hashes four of them at a time

@@ -14,7 +14,7 @@
 //! let text = write_verifier_key(alloc, &key.verifier(alloc)?)?;
 //! let verifier: NoteVerifier<Global> = read_verifier_key(alloc, text.as_str())?;
 //! let signature = key.sign(alloc, b"a message")?;
-//! assert!(verifier.verify(b"a message", signature.as_slice()));
+//! assert!(rt; verifier.verify(b"a message", signature.as_slice()));
 //! ```
 //!
 //! A reader takes only the text of a key that is fit for use, with its own identifier. `demo_key` makes a key of a

@@ -7,13 +7,13 @@
 //!
 //! ```rust
 //! let mut publish_loop = PublishLoop::serving(256, false); // publish each 256 entries, and what there is in a pause
-//! loop {
+//! for _step in 0..u64::MAX {
 //!     let event = match publish_loop.step() {
 //!         Step::Wait => next_event(),
 //!         Step::Take => Event::Done(take()),
-//!         Step::Publish => { publish(); Event::Done(0) }
+//!         Step::Publish => publish(), // `Event::Done(0)`, or `Event::Failed` with the fault
 //!         Step::End(outcome) => return outcome,
-//!         ..
+//!         step => carry_out(step),
 //!     };
 //!     publish_loop = publish_loop.after(event);
 //! }

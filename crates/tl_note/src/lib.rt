@@ -21,8 +21,8 @@
 //! let signer: Box<dyn Signer> = Box::new(alloc, key)?;
 //! let note = sign_note(alloc, alloc, "Two cats were seen.\n", &[signer])?;
 //! let opened = open_note(alloc, note.as_str(), &[verifier])?;
-//! assert_eq!(opened.note.text, "Two cats were seen.\n");
-//! assert_eq!(opened.verified.len(), 1); // the index of the log's line
+//! assert_eq!(rt; opened.note.text, "Two cats were seen.\n");
+//! assert_eq!(rt; opened.verified.len(), 1); // the index of the log's line
 //! ```
 //!
 //! Use nothing of a note before it is opened: `parse_note` reads a note without verifying it, and anybody can write

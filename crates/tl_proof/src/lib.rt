@@ -13,11 +13,11 @@
 //! let root = tree_hash(alloc, Sha256Tree, 2, &store)?;
 //!
 //! let proof = prove_record(alloc, Sha256Tree, 2, 1, &store)?; // the entry at index 1 of 2
-//! assert!(check_record(Sha256Tree, &proof, 2, root, 1, leaf_hash(Sha256Tree, b"a dog")));
+//! assert!(rt; check_record(Sha256Tree, &proof, 2, root, 1, leaf_hash(Sha256Tree, b"a dog")));
 //!
 //! let proof = prove_tree(alloc, Sha256Tree, 2, 1, &store)?; // from one entry to two
-//! assert!(check_tree(Sha256Tree, &proof, 2, root, 1, old_root));
-//! assert!(!check_tree(Sha256Tree, &proof, 2, root, 1, root));
+//! assert!(rt; check_tree(Sha256Tree, &proof, 2, root, 1, old_root));
+//! assert!(rt; !check_tree(Sha256Tree, &proof, 2, root, 1, root));
 //! ```
 //!
 //! The size and the root come first in a check, then the older size and root or the index and leaf hash. They must

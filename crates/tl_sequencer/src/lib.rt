@@ -11,11 +11,13 @@
 //! ```rust
 //! let (mut log, mut submitters) = open(alloc, 1, 16, 1000)?; // one lane, a ring of 16, at most 1,000 entries
 //! let mut submitter = submitters.pop().unwrap();
-//! assert_eq!(submitter.submit(cat), Ok(0));
-//! assert_eq!(submitter.submit(dog), Ok(1));
-//! assert_eq!(log.take(0, 1), Ok(1)); // one entry of lane 0 is in the log
-//! log.end(submitter.close().unwrap())?; // and now the rest
-//! assert_eq!(log.close()?.len(), 2);
+//! assert!(rt; submitter.submit(cat).is_ok()); // number 0 of this submitter
+//! assert!(rt; submitter.submit(dog).is_ok()); // number 1
+//! assert_eq!(rt; log.take(0, 1), Ok(1)); // one entry of lane 0 is in the log
+//! assert!(rt; log.end(submitter.close().unwrap()).is_ok()); // and now the rest
+//! if let Ok(complete) = log.close() {
+//!     assert_eq!(rt; complete.len(), 2);
+//! }
 //! ```
 //!
 //! An `Intake` is for a log that is stored elsewhere, such as on a disk. It keeps only the entries that aren't stored
@@ -24,12 +26,12 @@
 //! ```rust
 //! let (mut intake, mut submitters) = Intake::open(alloc, 700, 1, 16, 1000)?; // 700 entries are on the disk
 //! let mut submitter = submitters.pop().unwrap();
-//! assert_eq!(submitter.submit(cat), Ok(0));
-//! assert_eq!(intake.take(0, 16), Ok(1)); // it waits
+//! assert!(rt; submitter.submit(cat).is_ok());
+//! assert_eq!(rt; intake.take(0, 16), Ok(1)); // it waits
 //! put_on_disk(intake.waiting())?;
 //! intake.drain(); // and is dropped here
-//! intake.end(submitter.close().unwrap())?;
-//! assert_eq!(intake.completed(), Ok(1)); // one entry was taken in all
+//! assert!(rt; intake.end(submitter.close().unwrap()).is_ok());
+//! assert_eq!(rt; intake.completed(), Ok(1)); // one entry was taken in all
 //! ```
 #![tactic(auto)]
 

@@ -13,8 +13,8 @@
 //! store.append(b"a cat")?;
 //! store.append(b"a dog")?;
 //! let hashes = store.read(alloc, &[stored_index(0, 1), stored_index(1, 0)])?;
-//! assert!(hashes[0] == leaf_hash(Sha256Tree, b"a dog"));
-//! assert!(hashes[1] == tree_hash(alloc, Sha256Tree, 2, &store)?);
+//! assert!(rt; hashes[0] == leaf_hash(Sha256Tree, b"a dog"));
+//! assert!(rt; hashes[1] == tree_hash(alloc, Sha256Tree, 2, &store)?);
 //! ```
 //!
 //! A reader has at most 2^62 entries, and a `HashStore` takes up to 2^32 - 1.

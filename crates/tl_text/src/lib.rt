@@ -9,10 +9,10 @@
 //!
 //! ```rust
 //! let (size, rest) = split_line("12\nmore\n").unwrap();
-//! assert_eq!(rest, "more\n");
-//! assert_eq!(parse_size(size), Some(12));
-//! assert_eq!(parse_size("012"), None); // each number has one text
-//! assert!(is_base64(b"AQI=") && !is_base64(b"AQI"));
+//! assert_eq!(rt; rest, "more\n");
+//! assert_eq!(rt; parse_size(size), Some(12));
+//! assert_eq!(rt; parse_size("012"), None); // each number has one text
+//! assert!(rt; is_base64(b"AQI=") && !is_base64(b"AQI"));
 //! ```
 //!
 //! No reader allocates memory. `push_line` writes a line. The laws in `law` say that a text is that of one number, of

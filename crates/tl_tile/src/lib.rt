@@ -12,8 +12,8 @@
 //! edge.append(b"a cat")?;
 //! edge.append(b"a dog")?;
 //! let (tile, bytes) = edge.partial(0)?.unwrap();
-//! assert_eq!(path_of(alloc, &Resource::Tile(tile))?.as_str(), "tile/0/000.p/2");
-//! assert_eq!(bytes.len(), 64);
+//! assert_eq!(rt; path_of(alloc, &Resource::Tile(tile))?.as_str(), "tile/0/000.p/2");
+//! assert_eq!(rt; bytes.len(), 64);
 //! ```
 //!
 //! A client reads tiles from a `TileSource`, which may lie. A `TileHashReader` checks each tile against a size and a
