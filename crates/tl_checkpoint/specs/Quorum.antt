@@ -15,7 +15,7 @@ AreApart witnesses = AllPairs (λ a b. a.name ≢ b.name) witnesses
 abbrev pub IsOfSome : Bytes → List Key → Signature → ℕ → ℕ → Type 0
 IsOfSome text witnesses line place time = (key : Key) × (slice_get witnesses place ≡ Some key) × IsCosignature text key line time
 
--- the line with the one index is a cosignature by the witness with the other
+-- line `c.line` is a cosignature by witness `c.witness`, at the time `c.time`
 abbrev pub IsBy : Bytes → List Key → List Signature → Cosigned → Type 0
 IsBy text witnesses lines c = (line : Signature) × (slice_get lines c.line ≡ Some line) × IsOfSome text witnesses line c.witness c.time
 

@@ -7,8 +7,7 @@ use std::alloc::{AllocError, AllocFailed, Allocator};
 use thiserror::Error;
 use tl_hash::Hash;
 
-/// The statement of a log about itself: its name, its number of entries and the root of their tree (C2SP
-/// tlog-checkpoint).
+/// What a log states about itself: its name, its number of entries and the root of their tree (C2SP tlog-checkpoint).
 #[derive(Debug, Drop)]
 pub struct Checkpoint<A: Allocator> {
     /// The name of the log: one line, not empty.

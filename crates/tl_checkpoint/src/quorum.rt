@@ -65,7 +65,7 @@ fn time_by<A: Allocator + Copy>(
     check_cosignature(alloc, text, line, &**witness)
 }
 
-// Returns the cosignature that the line at this index is, with the first witness for whom it is one.
+// Finds the first witness whose cosignature the line at this index is.
 fn cosigned_at<A: Allocator + Copy>(
     alloc: A,
     text: &str,

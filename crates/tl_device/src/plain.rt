@@ -11,10 +11,10 @@ use std::alloc::Allocator;
 use std::fs::{File, Files, Metadata};
 use std::io;
 
-/// Reads the plain file at a path, of at most `most` bytes. `told` is the metadata of the path; a link is followed if
-/// it was read so. Returns `NotPlain` if the metadata is of something else, such as a FIFO, whose opening waits for a
-/// writer, and `TooLarge` if the file is longer. The metadata and the opening are two calls: whoever may write the
-/// folder can put another file there in between.
+/// Reads the plain file at a path, of at most `most` bytes. `told` is the metadata of the path; if it was read
+/// through a link, the link is followed. It fails with `NotPlain` if the metadata is of a link or of something else,
+/// such as a FIFO, whose opening waits for a writer, and with `TooLarge` if the file is longer. The metadata and the
+/// opening are two calls: whoever may write the folder can put another file there in between.
 pub fn read_plain<A: Allocator, H: Files>(
     alloc: A,
     files: &H,

@@ -78,7 +78,7 @@ impl SecretKey {
         &self.seed
     }
 
-    /// Returns the public key, which is the encoding of a point (RFC 8032, section 5.1.5).
+    /// Returns the public key: 32 bytes, the encoding of a point (RFC 8032, section 5.1.5).
     pub fn public_key(&self) -> &[u8; 32]
         ensures { result.now ≡ public_key self.now }
     {
@@ -99,7 +99,7 @@ impl SecretKey {
     }
 }
 
-/// Returns the public key of a seed, which is the encoding of a point (RFC 8032, section 5.1.5). It never fails.
+/// Returns the public key of a seed: 32 bytes, the encoding of a point (RFC 8032, section 5.1.5). It never fails.
 pub fn public_key(seed: &[u8; 32]) -> [u8; 32]
     ensures { result ≡ public_key seed.now }
 {

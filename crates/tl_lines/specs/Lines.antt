@@ -26,7 +26,7 @@ without_empty_last (piece ∷ next ∷ more) = piece ∷ without_empty_last (nex
 abbrev pub most_line : ℕ
 most_line = 65535
 
--- the line is longer
+-- the line is longer than that
 abbrev pub is_too_long : Bytes → Bool
 is_too_long line = nat_lt most_line (length line)
 

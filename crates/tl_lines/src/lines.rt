@@ -302,8 +302,8 @@ impl<A: Allocator + Copy> Lines<A> {
         self.entries
     }
 
-    /// Returns that number, and one more for each newline that isn't cut yet, except the one that ends a line already
-    /// reported as too long.
+    /// Returns what `entries` returns, plus one for each newline that isn't cut yet, except the one that ends a line
+    /// already reported as too long.
     pub fn count(&self) -> u64
         ensures { result ≡ entries_seen self.now }
     {

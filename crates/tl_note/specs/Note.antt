@@ -47,7 +47,7 @@ pub record IsNoteText (text : Bytes) : Type 0 where
 abbrev pub note_bytes : Bytes → List Signature → Bytes
 note_bytes text lines = text ++ 10 ∷ flat_map signature_line lines
 
--- the bytes are the note of this text and these lines, 1 to 100
+-- the bytes are the note of this text and these lines, 1 to 100 of them
 pub record Note (bytes text : Bytes) (lines : List Signature) : Type 0 where
   pub readable : IsNoteText text
   pub each : All IsSignature lines

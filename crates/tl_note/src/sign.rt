@@ -75,8 +75,8 @@ fn key_id_of(signer: &Box<dyn Signer>) -> u32
     signer.key_id()
 }
 
-/// Returns the index of the first signer whose name is no key's name (C2SP signed-note, "Format"), or `None` if each
-/// name is. So a caller can check signers before there is a text.
+/// Returns the index of the first signer whose name is no key's name (C2SP signed-note, "Format"), or `None` if there
+/// is no such signer. So a caller can check signers before there is a text.
 pub fn first_bad_name(signers: &[Box<dyn Signer>]) -> Option<usize>
     ensures { MatchOption result
         (All (λ k. IsKeyName k.name) (map (λ signer. signing_key signer) signers.now))

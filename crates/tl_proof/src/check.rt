@@ -115,7 +115,8 @@ fn join_both<T: TreeHash>(h: T, left: Hash, below: Option<(Hash, Hash)>) -> Opti
     }
 }
 
-// Returns the only hash of a proof as the old and the new root, or `None` if there are more or it is known.
+// Returns the only hash of a proof as the old and the new root, or `None` if the proof has more hashes, or if the old
+// root is `known`.
 fn only_hash(known: bool, proof: &[Hash]) -> Option<(Hash, Hash)>
     requires { 0 < length proof.now }
     ensures { result ≡ roots_of_whole known (reverse proof.now) }

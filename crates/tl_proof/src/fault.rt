@@ -12,7 +12,7 @@ pub enum ProveFault {
     /// The index is not below the size, the old size is above it, or the size is above 2^62.
     #[error("the index or the size is out of range")]
     BadRange,
-    /// The stored hashes can't be read, for another reason than memory.
+    /// The stored hashes can't be read, for a reason other than memory.
     #[error("the stored hashes could not be read: {0}")]
     Read(ReadFault),
     /// Memory ran out.

@@ -11,7 +11,7 @@ places_of lane first [] = []
 places_of lane first (w ∷ who) =
     if w == lane then (first ∷ places_of lane (first + 1) who) else places_of lane (first + 1) who
 
--- the places of each lane in `who`; lanes that the log doesn't have, have none
+-- the places of each lane in `who`; a lane past the last one has none
 abbrev pub ArePlaces : List (List ℕ) → List ℕ → Type 0
 ArePlaces places who = (lane : ℕ) → places_of lane 0 who ≡ slice_index_or places lane []
 

@@ -4,7 +4,7 @@ use Rattle.tl_store.specs.Stored.{stored_count}
 use Rattle.tl_store.specs.declared.reader.ReadFault.{ReadFault}
 use Rattle.tl_store.specs.declared.reader.ReadFault.TheVariants.{OutOfRange, Source, OutOfMemory, BadTile}
 
--- the number of entries that a reader of this size answers for: none if its size is above 2 ^ 62
+-- the number of entries of a reader of this size: none if the size is above 2 ^ 62
 abbrev pub readable_size : ℕ → ℕ
 readable_size size = if nat_le size (2 ^ 62) then size else 0
 

@@ -18,6 +18,6 @@ pub record IsRead (text : Bytes) (count : ℕ) (bytes : Bytes) : Type 0 where
 abbrev pub IsBase64 : Bytes → Type 0
 IsBase64 text = (bytes : Bytes) × IsSpelled text bytes
 
--- the text is base64 of no bytes
+-- the text isn't base64 of any bytes
 abbrev pub IsNoBase64 : Bytes → Type 0
 IsNoBase64 text = (bytes : Bytes) → IsSpelled text bytes → ⊥

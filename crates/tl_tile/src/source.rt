@@ -40,8 +40,8 @@ impl<X: Drop> From<AllocFailed<X>> for SourceFault {
     }
 }
 
-/// Fetches tiles of a log (C2SP tlog-tiles, "Merkle Tree"). A source may lie: only `may_answer` is known of the bytes
-/// that it returns.
+/// Fetches tiles of a log (C2SP tlog-tiles, "Merkle Tree"). A source may lie: contracts know of its bytes only what
+/// `may_answer` says.
 pub trait TileSource {
     ghost use Rattle.tl_tile.specs.declared.resource.Tile.{Tile};
     ghost use Rattle.tl_tile.specs.declared.source.SourceFault.TheVariants.{Unavailable};

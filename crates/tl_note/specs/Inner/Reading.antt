@@ -22,7 +22,7 @@ IsNoLine text = (s : Signature) → IsSignature s → text ≡ signature_words s
 abbrev pub IsNoFirstLine : Bytes → Type 0
 IsNoFirstLine bytes = (first : Signature) (rest : Bytes) → CutsLine bytes first rest → ⊥
 
--- the bytes are these lines, of 1 to 100
+-- the bytes are these lines, 1 to 100 of them
 pub record AreSignatureLines (bytes : Bytes) (lines : List Signature) : Type 0 where
   pub each : All IsSignature lines
   pub some : 0 < length lines

@@ -10,7 +10,7 @@ use std::alloc::{AllocError, Allocator};
 use tl_hash::{Hash, TreeHash, node_hash};
 
 // Reports whether two nodes are over the same hashes. That is so exactly if their byte strings are the same, since
-// each left hash has 32 bytes. The prover sees that length only where the bytes are read, so they are.
+// each left hash has 32 bytes. The prover knows that length only once the bytes are read, so they are.
 fn same_children(a: Children, b: Children) -> bool
     ensures hashes { IsTrue result ↔ ((a.left ≡ b.left) × (a.right ≡ b.right)) }
     ensures strings { (input_of a ≡ input_of b) → ((a.left ≡ b.left) × (a.right ≡ b.right)) }

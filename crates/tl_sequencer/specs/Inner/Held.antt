@@ -19,7 +19,8 @@ module _ {E : Type 0} where
   abbrev pub drained_of : List (Vec ℕ E) → List (Vec ℕ E) → List (Vec ℕ E)
   drained_of taken waiting = take (length taken - length waiting) taken
 
-  -- if what was drained and what waits was all that was taken before, then it is now
+  -- whatever was drained: if it and what waited was all that was taken, then it and what waits now is all that is
+  -- taken now
   abbrev pub SameDrained : List (Vec ℕ E) → List (Vec ℕ E) → List (Vec ℕ E) → List (Vec ℕ E) → Type 0
   SameDrained taken taken' waiting waiting' =
       (drained : List (Vec ℕ E)) → taken ≡ drained ++ waiting → taken' ≡ drained ++ waiting'
