@@ -29,8 +29,8 @@ pub fn inclusion_soundness_law()
         × Collides H x y (path_inputs H index (length entries) proof entry) (inputs H entries)) }
 {}
 
-/// The consistency proof for each prefix is accepted (RFC 6962, section 2.1.2), for every digest function. It computes
-/// nothing: its contract is the law.
+/// The consistency proof for each prefix is accepted (RFC 6962, section 2.1.2), for every digest function. It
+/// computes nothing: its contract is the law.
 pub fn consistency_law()
     ensures { (H : Digest) (entries : List Bytes) (old : ℕ)
         → old ≤ length entries → AcceptsConsistency H (consistency_proof H old entries)

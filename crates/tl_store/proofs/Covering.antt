@@ -21,8 +21,8 @@ use Rattle.tl_store.proofs.Readable.{stored_count-mono, index-in_count, count-in
 
 -- ---- collecting the numbers
 
--- `indexes` are those of the subtrees that cover the entries from `start` up to `covered` of those up to `size`, so far
--- as all are to be found; `covered` is a multiple of a power of two that is no less than what is left
+-- `indexes` are those of the subtrees that cover the entries from `start` up to `covered` of those up to `size`, so
+-- far as all are to be found; `covered` is a multiple of a power of two that is no less than what is left
 pub record IsCovered (start size covered : ℕ) (indexes : List ℕ) : Type 0 where
   pub within : covered ≤ size
   pub aligned : IsAligned covered size

@@ -128,7 +128,8 @@ low_level size level count small filled =
           absurd (omega (arith, rest, none, own, one, filled.scaled, positive_256 level))
     ]
 
--- one place of a level more, after entries that are full places of that level, counts as one entry does there and above
+-- one place of a level more, after entries that are full places of that level, counts as one entry does there and
+-- above
 counts_up : (was lowest size more : ℕ) → was % 256 ^ lowest ≡ 0 → was + 256 ^ lowest ≡ size → level_count was (lowest + more) ≡ level_count (size - 1) (lowest + more)
 counts_up was lowest size zero whole sum =
     let u : ℕ = 256 ^ lowest in

@@ -33,8 +33,8 @@ stored_hashes H entries read = map (stored_hash H entries) read.indexes
 
 -- authenticated hashes
 pub record AreAuthentic (H : Digest) (read : Reading) (hashes : List Bytes) : Type 0 where
-  -- they are the stored hashes of each list of this size and root, or an input of the list and a string that was hashed
-  -- for these tiles collide
+  -- they are the stored hashes of each list of this size and root, or an input of the list and a string that was
+  -- hashed for these tiles collide
   pub stored : (entries : List Bytes) → length entries ≡ read.size → tree_hash H entries ≡ read.root
       → (hashes ≡ stored_hashes H entries read) ⊎ TilesCollide H (tiles_of read.fetched) read.size entries
   -- if these tiles are the tiles over a list, they are its stored hashes
