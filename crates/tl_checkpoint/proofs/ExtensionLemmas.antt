@@ -35,7 +35,7 @@ after_done (s ∷ done) (m ∷ lines) left d l e =
 continue : (text left : List ℕ) (done lines : List (List ℕ)) → HasRead text done left → All IsOneLine lines → text ≡ flat_map line lines → Continue left
 continue text left done lines read each e = after_done done lines left read.each each (sym e ∙ sym read.whole)
 
--- what is left is no lines, where it doesn't begin with one
+-- what is left is no lines if it doesn't begin with one
 none_first : (left : List ℕ) (more : List (List ℕ)) → 0 < length left → IsNoLine left → All IsOneLine more → left ≡ flat_map line more → ⊥
 none_first left [] some none each e = absurd (omega (arith, some, ap length e))
 none_first left (m ∷ more) some none each e = none m (flat_map line more) (All-head IsOneLine m more each).plain (e ∙ flat_map-cons line m more)
@@ -43,7 +43,7 @@ none_first left (m ∷ more) some none each e = none m (flat_map line more) (All
 pub no_first : (text left : List ℕ) (done lines : List (List ℕ)) → HasRead text done left → 0 < length left → IsNoLine left → All IsOneLine lines → text ≡ flat_map line lines → ⊥
 no_first text left done lines read some none each e = let c = continue text left done lines read each e in none_first left c.more some none c.each c.rest
 
--- nor where its first line is empty
+-- nor if its first line is empty
 empty_first : (left words rest : List ℕ) (more : List (List ℕ)) → length words ≡ 0 → left ≡ line words ++ rest → All IsOneLine more → left ≡ flat_map line more → ⊥
 empty_first left words rest [] none first each e = absurd (line_not_empty words rest (sym first ∙ e))
 empty_first left [] rest (m ∷ more) none first each e =
@@ -94,7 +94,7 @@ next_one text left words rest done read all plain first =
     let c = continue text left done all.0 read all.1.each all.1.joined in
     next_line left words rest c.more plain first c.each c.rest
 
--- and nothing is left where no line is
+-- and nothing is left if no line is
 none_left : (left : List ℕ) (more : List (List ℕ)) → IsNoLine left → All IsOneLine more → left ≡ flat_map line more → length left ≡ 0
 none_left left [] none each e = ap (λ (t : List ℕ). length t) e
 none_left left (m ∷ more) none each e = absurd (none m (flat_map line more) (All-head IsOneLine m more each).plain (e ∙ flat_map-cons line m more))

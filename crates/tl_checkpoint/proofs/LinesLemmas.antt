@@ -1,4 +1,4 @@
--- One more value of a list, where each is seen as its text.
+-- One more value of a list, each seen as its text.
 use Rattle.std.proofs.Common.{◌≡◌, ℕ, ◌+◌, ◌<◌, List, [], ◌∷◌, ◌++◌, length, get_or, map, take, sym, ap, subst, ◌∙◌, arith, All}
 use Rattle.std.proofs.lemmas.List.{map-append, map_more, get_or-map, length-map}
 use Rattle.std.proofs.lemmas.List.Elements.{All-push}

@@ -39,7 +39,7 @@ in_these text parts lines cuts are =
     let all = cuts.extensions in
     subst (λ (ls : List (List ℕ)). IsInLines text (parts.origin.now ∷ parts.size.now ∷ parts.root.now ∷ ls)) (lines_once all.0 lines (plain_lines all.0 all.1.each) (plain_lines lines are.each) (sym all.1.joined ∙ are.joined)) cuts.lines
 
--- a request for memory is refused, once the text is known to be a checkpoint's
+-- memory runs out, once the text is known to be a checkpoint's
 pub parses_refused : {A : Type 0} → (text : List ℕ) (parts : Parts) (size : ℕ) (root : List ℕ) (r : Result (Checkpoint A) CheckpointFault) → IsErrAnd r (λ e. e ≡ OutOfMemory) → CutsLines text parts → 0 < length parts.origin.now → (size < 2 ^ 63) × (parts.size.now ≡ number_text size)
     → IsHash root × (parts.root.now ≡ base64_text root) → ParsesCheckpoint text r
 parses_refused text parts size root (Ok c) same cuts some s r = absurd same

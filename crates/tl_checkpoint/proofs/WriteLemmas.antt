@@ -19,7 +19,7 @@ is_head h texts origin extensions named each one small hash = record {
   extensions = subst (All IsOneLine) extensions each;
 }
 
--- a request for memory is refused, once the checkpoint is known to have a text
+-- memory runs out, once the checkpoint is known to have a text
 pub writes_refused : {A : Type 0} → (h : Head) (r : Result (String A) CheckpointFault)
     → IsErrAnd r (λ e. e ≡ OutOfMemory) → IsHead h → WritesCheckpoint h r
 writes_refused h (Ok text) same is = absurd same

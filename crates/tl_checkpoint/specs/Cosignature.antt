@@ -1,4 +1,4 @@
--- What a witness signs, and its signature line (C2SP tlog-cosignature, "Format", version 1).
+-- The message that a witness signs, and its signature line (C2SP tlog-cosignature, "Format", version 1).
 use Rattle.std.specs.Prelude.{◌≡◌, ℕ, ◌<◌, ◌^◌, ◌++◌, length, codes, IsTrue, Option, Some, None, Result, Ok, Err, String, string_bytes}
 use Rattle.std.specs.Int.{w64, to_be_bytes}
 use Rattle.tl_hash.specs.Bytes.{Bytes}
@@ -29,7 +29,7 @@ pub record Cosigns (text : Bytes) (time : ℕ) (key : SigningKey) (words : Bytes
 abbrev pub MayFailToCosign : Bytes → ℕ → SigningKey → Type 0
 MayFailToCosign text time key = MayGiveNone key (cosigned_message time text)
 
--- writing a cosignature line; the one signer has the place 0
+-- writing a cosignature line; the index of its only signer is 0
 abbrev pub CosignsLine : {A : Type 0} → Bytes → ℕ → SigningKey → Result (String A) NoteFault → Type 0
 CosignsLine text time key (Ok words) = Cosigns text time key (string_bytes words)
 CosignsLine text time key (Err Malformed) = ⊥

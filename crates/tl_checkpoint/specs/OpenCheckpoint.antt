@@ -1,4 +1,4 @@
--- What opening a signed checkpoint answers (C2SP tlog-checkpoint; signed-note, "Verification").
+-- What opening a signed checkpoint returns (C2SP tlog-checkpoint; signed-note, "Verification").
 use Rattle.std.specs.Prelude.{◌≢◌, List, Result, Ok, Err}
 use Rattle.tl_hash.specs.Bytes.{Bytes}
 use Rattle.tl_note.specs.Key.{Key}
@@ -22,7 +22,7 @@ pub record IsSignedCheckpoint (bytes : Bytes) (keys : List Key) (c : Head) : Typ
   pub noted : Note bytes (checkpoint_text c) lines
   pub opens : Opened keys (checkpoint_text c) lines
 
--- they are a note that opens, but its text is no checkpoint's, for this reason
+-- the bytes are a note that opens, but its text is no checkpoint's, for this reason
 pub record HasOtherText (A : Type 0) (bytes : Bytes) (keys : List Key) (fault : CheckpointFault) : Type 0 where
   pub text : Bytes
   pub lines : List Signature
@@ -30,7 +30,7 @@ pub record HasOtherText (A : Type 0) (bytes : Bytes) (keys : List Key) (fault : 
   pub opens : Opened keys text lines
   pub parsed : ParsesCheckpoint {A = A} text (Err fault)
 
--- the checkpoint, or why the bytes are no such note; memory is asked for a note alone
+-- the checkpoint, or why the bytes are no such note; memory is allocated only for a note
 abbrev pub OpensCheckpoint : {A : Type 0} → Bytes → List Key → Result (Checkpoint A) OpenCheckpointFault → Type 0
 OpensCheckpoint bytes keys (Ok c) = IsSignedCheckpoint bytes keys (head_of c)
 OpensCheckpoint {A = A} bytes keys (Err (Unopened fault)) = OpensNote {A = A} bytes keys (Err fault) × (fault ≢ note.OutOfMemory)

@@ -1,4 +1,4 @@
--- A fault of the note or of its text, as that of a signed checkpoint.
+-- The fault of a signed checkpoint for a fault of its note or of its text.
 use Rattle.tl_note.specs.declared.fault.NoteFault.{NoteFault}
 use Rattle.tl_note.specs.declared.fault.NoteFault.TheVariants as note
 use Rattle.tl_checkpoint.specs.declared.checkpoint.CheckpointFault.{CheckpointFault}

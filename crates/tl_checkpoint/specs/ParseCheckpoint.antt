@@ -1,4 +1,4 @@
--- What reading a checkpoint answers.
+-- What reading a checkpoint returns.
 use Rattle.std.specs.Prelude.{◌≡◌, ◌≢◌, ◌≤◌, List, [], ◌∷◌, length, drop, All, Result, Ok, Err}
 use Rattle.std.specs.List.{flat_map}
 use Rattle.tl_hash.specs.Bytes.{Bytes}
@@ -9,18 +9,18 @@ use Rattle.tl_checkpoint.specs.declared.checkpoint.CheckpointFault.TheVariants.{
 use Rattle.tl_checkpoint.specs.Checkpoint.{Head, head_of, IsHead, checkpoint_text}
 use Rattle.tl_text.specs.Pieces.{IsNoSize, IsNoHash}
 
--- the text is lines without control characters, three at least; those after the third aren't empty
+-- the text is at least three lines without control characters; those after the third aren't empty
 pub record IsInLines (text : Bytes) (lines : List Bytes) : Type 0 where
   pub joined : text ≡ flat_map line lines
   pub plain : All HasNoControl lines
   pub enough : 3 ≤ length lines
   pub extensions : All IsOneLine (drop 3 lines)
 
--- the text is in no lines
+-- the text is no such lines
 abbrev pub IsInNoLines : Bytes → Type 0
 IsInNoLines text = (lines : List Bytes) → IsInLines text lines → ⊥
 
--- the text's first lines are these
+-- the first lines of the text are these
 pub record HasLines (text origin size root : Bytes) : Type 0 where
   pub extensions : List Bytes
   pub lines : IsInLines text (origin ∷ size ∷ root ∷ extensions)

@@ -1,4 +1,4 @@
--- Which of several witnesses cosigned a checkpoint (C2SP tlog-cosignature).
+-- The witnesses that cosigned a checkpoint (C2SP tlog-cosignature).
 use Rattle.std.specs.Prelude.{◌≡◌, ◌≢◌, ℕ, ◌<◌, ◌≤◌, List, Some, slice_get}
 use Rattle.std.specs.List.{All, AllPairs, Any}
 use Rattle.tl_hash.specs.Bytes.{Bytes}
@@ -7,15 +7,15 @@ use Rattle.tl_note.specs.Note.{Signature}
 use Rattle.tl_checkpoint.specs.declared.quorum.Cosigned.{Cosigned}
 use Rattle.tl_checkpoint.specs.Cosignature.{IsCosignature}
 
--- each witness has another name
+-- the names of the witnesses are all different
 abbrev pub AreApart : List Key → Type 0
 AreApart witnesses = AllPairs (λ a b. a.name ≢ b.name) witnesses
 
--- the line is a cosignature of the text by the witness at this place, at this time
+-- the line is a cosignature of the text by the witness at this index, at this time
 abbrev pub IsOfSome : Bytes → List Key → Signature → ℕ → ℕ → Type 0
 IsOfSome text witnesses line place time = (key : Key) × (slice_get witnesses place ≡ Some key) × IsCosignature text key line time
 
--- the line at the one place is a cosignature by the witness at the other
+-- line `c.line` is a cosignature by witness `c.witness`, at the time `c.time`
 abbrev pub IsBy : Bytes → List Key → List Signature → Cosigned → Type 0
 IsBy text witnesses lines c = (line : Signature) × (slice_get lines c.line ≡ Some line) × IsOfSome text witnesses line c.witness c.time
 

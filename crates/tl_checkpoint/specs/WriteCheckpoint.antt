@@ -1,4 +1,4 @@
--- What writing a checkpoint answers.
+-- What writing a checkpoint returns.
 use Rattle.std.specs.Prelude.{◌≡◌, All, Result, Ok, Err, String, string_bytes}
 use Rattle.tl_text.specs.Text.{IsSize, IsOneLine}
 use Rattle.tl_checkpoint.specs.declared.checkpoint.CheckpointFault.{CheckpointFault}

@@ -1,4 +1,4 @@
-//! A checkpoint, and why one is refused.
+//! Checkpoints, and why one can't be written or read.
 
 ghost use Rattle.std.specs.Prelude.{◌≡◌};
 ghost use Rattle.tl_checkpoint.specs.declared.checkpoint.CheckpointFault.TheVariants.{OutOfMemory};
@@ -7,23 +7,23 @@ use std::alloc::{AllocError, AllocFailed, Allocator};
 use thiserror::Error;
 use tl_hash::Hash;
 
-/// What a log states of itself: its name, its number of entries and the root of their tree (C2SP tlog-checkpoint).
+/// What a log states about itself: its name, its number of entries and the root of their tree (C2SP tlog-checkpoint).
 #[derive(Debug, Drop)]
 pub struct Checkpoint<A: Allocator> {
-    /// The name of the log: one line that isn't empty.
+    /// The name of the log: one line, not empty.
     pub origin: String<A>,
     /// The number of entries, below 2^63.
     pub size: u64,
     /// The Merkle tree hash of the entries.
     pub root: Hash,
-    /// Further lines, none of them empty.
+    /// Further lines, none of which is empty.
     pub extensions: Vec<String<A>, A>,
 }
 
-/// Why a checkpoint can't be written or read, in the order in which it is found.
+/// The reasons why a checkpoint can't be written or read, in the order in which they are checked.
 #[derive(Clone, Copy, Debug, PartialEq, Eq, Error)]
 pub enum CheckpointFault {
-    /// The text isn't three lines at least, or an extension line is empty or has a control character.
+    /// The text has fewer than three lines, or an extension line is empty or has a control character.
     #[error("bad line")]
     Lines,
     /// The origin is empty or has a control character.
@@ -35,7 +35,7 @@ pub enum CheckpointFault {
     /// The root isn't base64 of 32 bytes.
     #[error("bad root hash")]
     Root,
-    /// A growth was refused.
+    /// Allocation failed.
     #[error("out of memory")]
     OutOfMemory,
 }

@@ -13,8 +13,8 @@ use tl_note::{
 };
 use tl_text::push_line;
 
-/// The message that a witness signs for the text of a checkpoint: the version, the time in seconds since the Unix
-/// epoch, and the text. It fails only where a growth was refused.
+/// Returns the message that a witness signs for the text of a checkpoint: the version, the time in seconds since the
+/// Unix epoch, and the text. It fails only if allocation fails.
 pub fn cosign_message<A: Allocator>(
     alloc: A,
     time: u64,
@@ -30,8 +30,8 @@ pub fn cosign_message<A: Allocator>(
     Ok(message)
 }
 
-/// The bytes of a cosignature after the key's identifier: the time in seconds since the Unix epoch, big-endian in eight
-/// bytes, and what the key signed. It fails only where a growth was refused.
+/// Returns the bytes of a cosignature after the key's identifier: the time in seconds since the Unix epoch, in eight
+/// bytes, big-endian, and the key's signature. It fails only if allocation fails.
 pub fn cosignature_bytes<A: Allocator>(
     alloc: A,
     time: u64,
@@ -44,9 +44,9 @@ pub fn cosignature_bytes<A: Allocator>(
     Ok(bytes)
 }
 
-/// The line by which a witness cosigns the text of a checkpoint at this time, under this name, which is a key's name.
-/// `global` is what the signer takes memory from. It is `Refused` where the signer refuses the message or gives no
-/// bytes.
+/// Returns the line by which a witness cosigns the text of a checkpoint at this time, under this name, which must be
+/// a key's name. The signer allocates from `global`. It fails with `Refused` if the signer refuses the message or
+/// gives no bytes.
 pub fn cosignature_line_named<A: Allocator + Copy>(
     alloc: A,
     global: Global,
@@ -71,9 +71,9 @@ pub fn cosignature_line_named<A: Allocator + Copy>(
     Ok(line)
 }
 
-/// The line by which a witness cosigns the text of a checkpoint at this time. `global` is what the signer takes memory
-/// from. `BadName(0)` tells that the signer's name is no key's name, then `Sign(0)` that it refused the message or
-/// gave no bytes.
+/// Returns the line by which a witness cosigns the text of a checkpoint at this time. The signer allocates from
+/// `global`. It fails with `BadName(0)` if the signer's name is no key's name, and else with `Sign(0)` if the signer
+/// refuses the message or gives no bytes.
 pub fn cosign_line<A: Allocator + Copy>(
     alloc: A,
     global: Global,
@@ -93,14 +93,14 @@ pub fn cosign_line<A: Allocator + Copy>(
     }
 }
 
-// Whether the line is of the verifier's key.
+// Reports whether the line has the verifier's key.
 fn is_of(line: &SigView<'_>, verifier: &dyn Verifier) -> bool
     ensures { IsTrue result ↔ IsOfKey (key verifier.now) line.now }
 {
     line.name() == verifier.name() && line.key_id() == verifier.key_id()
 }
 
-// The time and the signature that the bytes of a cosignature hold.
+// Reads the time and the signature of the bytes of a cosignature.
 fn read_cosignature(bytes: &[u8]) -> Option<(u64, &[u8])>
     ensures { MatchOption result (IsNoCosignature bytes.now)
         (λ r. (r.0 < 2 ^ 64) × (bytes.now ≡ cosignature r.0 r.1.now)) }
@@ -112,9 +112,9 @@ fn read_cosignature(bytes: &[u8]) -> Option<(u64, &[u8])>
     Some((time, signature))
 }
 
-/// The time of a cosignature: where the line has the verifier's name and identifier, and its signature is valid for
-/// the message of this text at that time. It fails only where a growth was refused, and of a line with that name and
-/// identifier only.
+/// Returns the time of a cosignature: of a line with the verifier's name and identifier whose signature is valid for
+/// the message of this text at that time. Returns `None` for any other line. It fails only if allocation fails, and
+/// allocates only for a line with that name and identifier.
 pub fn check_cosignature<A: Allocator + Copy>(
     alloc: A,
     text: &str,

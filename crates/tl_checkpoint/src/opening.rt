@@ -1,4 +1,4 @@
-//! Opens a signed checkpoint.
+//! Opening a signed checkpoint.
 
 ghost use Rattle.std.specs.Prelude.{map};
 ghost use Rattle.tl_checkpoint.specs.OpenCheckpoint.{OpensCheckpoint};
@@ -9,16 +9,16 @@ use std::alloc::Allocator;
 use thiserror::Error;
 use tl_note::{NoteFault, Verifier, open_note};
 
-/// Why a signed checkpoint wasn't opened.
+/// The reasons why a signed checkpoint can't be opened.
 #[derive(Clone, Copy, Debug, PartialEq, Eq, Error)]
 pub enum OpenCheckpointFault {
     /// The bytes are no note, or it doesn't open (C2SP signed-note, "Verification").
     #[error("{0}")]
     Unopened(NoteFault),
-    /// The note opens, and its text is no checkpoint.
+    /// The note opens, but its text is no checkpoint.
     #[error("{0}")]
     NoCheckpoint(CheckpointFault),
-    /// A growth was refused.
+    /// Allocation failed.
     #[error("out of memory")]
     OutOfMemory,
 }
@@ -51,9 +51,9 @@ impl From<CheckpointFault> for OpenCheckpointFault {
     }
 }
 
-/// The checkpoint of a signed note that opens under these keys (C2SP tlog-checkpoint; signed-note, "Verification"):
-/// some line is of a key that a verifier has, and each such line that counts is valid. `OutOfMemory` is of a note
-/// alone.
+/// Returns the checkpoint of a signed note that opens under these keys (C2SP tlog-checkpoint; signed-note,
+/// "Verification"): some line has a key of a verifier, and each line that counts is valid. `OutOfMemory` occurs only
+/// for a note.
 pub fn open_checkpoint<A: Allocator + Copy>(
     alloc: A,
     note: &str,

@@ -1,4 +1,4 @@
-//! Reads the text of a checkpoint.
+//! Reading the text of a checkpoint.
 
 ghost use Rattle.std.specs.Prelude.{◌≡◌, ◌↔◌, IsTrue, IfOk, MatchOption, map, string_bytes};
 ghost use Rattle.tl_checkpoint.specs.ParseCheckpoint.{IsInNoLines, ParsesCheckpoint};
@@ -8,7 +8,7 @@ use crate::checkpoint::{Checkpoint, CheckpointFault};
 use std::alloc::{AllocError, Allocator};
 use tl_text::{parse_hash, parse_size, split_line};
 
-// Whether a text is lines, none of which is empty.
+// Reports whether a text is lines, none of which is empty.
 fn are_extensions(text: &str) -> bool
     ensures { IsTrue result ↔ AreSome text.now }
 {
@@ -25,7 +25,7 @@ fn are_extensions(text: &str) -> bool
     true
 }
 
-// The lines of a text, of which the extensions are one text.
+// The lines of a text. The extensions are one piece of text.
 #[derive(Clone, Copy)]
 struct Parts<'a> {
     origin: &'a str,
@@ -34,7 +34,7 @@ struct Parts<'a> {
     extensions: &'a str,
 }
 
-// Cuts a text into its lines, three at least, of which those after the third aren't empty.
+// Cuts a text into its lines: at least three, and none of those after the third is empty.
 fn cut_lines(text: &str) -> Option<Parts<'_>>
     ensures { MatchOption result (IsInNoLines text.now) (CutsLines text.now) }
 {
@@ -58,7 +58,7 @@ fn cut_lines(text: &str) -> Option<Parts<'_>>
     })
 }
 
-// The lines of a text that is lines, none of which is empty.
+// Returns the lines of a text that is lines, none of which is empty.
 fn read_extensions<A: Allocator + Copy>(
     alloc: A,
     text: &str,
@@ -75,9 +75,9 @@ fn read_extensions<A: Allocator + Copy>(
     Ok(lines)
 }
 
-/// The checkpoint that a text is (C2SP tlog-checkpoint, "Note text"). Of a text that is none the first fault is told,
-/// in the order lines, origin, size, root. Memory is asked for after all of them, so that it is `OutOfMemory` of a
-/// checkpoint only.
+/// Reads the text of a checkpoint (C2SP tlog-checkpoint, "Note text"). If the text is none, it fails with the first
+/// fault in the order lines, origin, size, root. It allocates only after these checks, so `OutOfMemory` occurs only
+/// for a checkpoint.
 pub fn parse<A: Allocator + Copy>(alloc: A, text: &str) -> Result<Checkpoint<A>, CheckpointFault>
     ensures { ParsesCheckpoint text.now result }
 {

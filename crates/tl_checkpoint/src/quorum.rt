@@ -1,4 +1,4 @@
-//! Which of several witnesses cosigned a checkpoint (C2SP tlog-cosignature).
+//! The witnesses that cosigned a checkpoint (C2SP tlog-cosignature).
 
 ghost use Rattle.std.specs.Prelude.{◌≡◌, ◌↔◌, ◌<◌, length, map, slice_get, Some, IfOk, IsTrue, MatchOption, OnOk};
 ghost use Rattle.std.specs.List.{Any};
@@ -11,7 +11,7 @@ use crate::cosignature::check_cosignature;
 use std::alloc::{AllocError, Allocator};
 use tl_note::{SigView, Verifier};
 
-/// A cosignature among signature lines: the place of its line and the place of its witness, each counted from 0, and
+/// A cosignature among signature lines: the index of its line and the index of its witness, both counted from 0, and
 /// its time in seconds since the Unix epoch.
 #[derive(Clone, Copy, Debug, PartialEq, Eq)]
 pub struct Cosigned {
@@ -20,14 +20,14 @@ pub struct Cosigned {
     pub time: u64,
 }
 
-// The name of a witness.
+// Returns the name of a witness.
 fn name_of(witness: &Box<dyn Verifier>) -> &str
     ensures { result.now ≡ (key witness.now).name }
 {
     witness.name()
 }
 
-// Whether an earlier witness has the name of the one at this place.
+// Reports whether an earlier witness has the name of the one at this index.
 fn is_repeated(witnesses: &[Box<dyn Verifier>], place: usize) -> bool
     requires { place < length witnesses.now }
     ensures { IsTrue result ↔ IsRepeated (map (λ witness. key witness) witnesses.now) place }
@@ -41,7 +41,7 @@ fn is_repeated(witnesses: &[Box<dyn Verifier>], place: usize) -> bool
     false
 }
 
-/// Whether each witness has another name. It takes no memory.
+/// Reports whether the names of the witnesses are all different. It allocates nothing.
 pub fn have_distinct_names(witnesses: &[Box<dyn Verifier>]) -> bool
     ensures { IsTrue result ↔ AreApart (map (λ witness. key witness) witnesses.now) }
 {
@@ -53,7 +53,7 @@ pub fn have_distinct_names(witnesses: &[Box<dyn Verifier>]) -> bool
     true
 }
 
-// The time of the line, where it is a cosignature by the witness.
+// Returns the time of the line if it is a cosignature by the witness.
 fn time_by<A: Allocator + Copy>(
     alloc: A,
     text: &str,
@@ -65,7 +65,7 @@ fn time_by<A: Allocator + Copy>(
     check_cosignature(alloc, text, line, &**witness)
 }
 
-// The cosignature that the line at this place is, by the first of the witnesses for whom it is one.
+// Finds the first witness whose cosignature the line at this index is.
 fn cosigned_at<A: Allocator + Copy>(
     alloc: A,
     text: &str,
@@ -92,7 +92,7 @@ fn cosigned_at<A: Allocator + Copy>(
     Ok(None)
 }
 
-// Whether there is a cosignature by this witness.
+// Reports whether there is a cosignature by this witness.
 fn has_witness(found: &[Cosigned], witness: usize) -> bool
     ensures { IsTrue result ↔ Any (λ c. c.witness ≡ witness) found.now }
 {
@@ -115,9 +115,9 @@ fn keep<A: Allocator>(
     Ok(())
 }
 
-/// The first cosignature of the text by each witness, in the order of the lines. Each witness has another name. A line
-/// that is of no witness, or isn't valid for this text, isn't counted, nor is a witness's later line. It fails only
-/// where a growth was refused.
+/// Returns the first cosignature of the text by each witness, in the order of the lines. The names of the witnesses
+/// must all be different. A line of no witness, a line that isn't valid for this text, and a later line of a witness
+/// don't count. It fails only if allocation fails.
 pub fn cosignatures_by<A: Allocator + Copy>(
     alloc: A,
     text: &str,

@@ -1,4 +1,4 @@
-//! Writes the text of a checkpoint.
+//! Writing the text of a checkpoint.
 
 ghost use Rattle.std.specs.Prelude.{◌≡◌, ◌↔◌, ◌++◌, All, IsTrue, IfOk, OnOk, map, string_bytes};
 ghost use Rattle.std.specs.List.{flat_map};
@@ -13,7 +13,7 @@ use itoa::Buffer;
 use std::alloc::{AllocError, Allocator};
 use tl_text::{is_one_line, push_line};
 
-// Whether each text is one line that isn't empty.
+// Reports whether each text is one line and not empty.
 fn are_lines<A: Allocator>(texts: &[String<A>]) -> bool
     ensures { IsTrue result ↔ All IsOneLine (map string_bytes texts.now) }
 {
@@ -39,7 +39,7 @@ fn push_lines<A: Allocator, B: Allocator>(
     Ok(())
 }
 
-// The lines of a checkpoint.
+// Returns the lines of a checkpoint.
 fn lines_of<A: Allocator + Copy, B: Allocator>(
     alloc: A,
     checkpoint: &Checkpoint<B>,
@@ -57,8 +57,8 @@ fn lines_of<A: Allocator + Copy, B: Allocator>(
     Ok(out)
 }
 
-/// The text of a checkpoint: the lines origin, size, root and extensions (C2SP tlog-checkpoint, "Note text"). Of what
-/// has no text the first fault is told, in the order extensions, origin, size.
+/// Returns the text of a checkpoint: the lines origin, size, root and extensions (C2SP tlog-checkpoint, "Note text").
+/// If the checkpoint has no text, it fails with the first fault in the order extensions, origin, size.
 pub fn write<A: Allocator + Copy, B: Allocator>(
     alloc: A,
     checkpoint: &Checkpoint<B>,

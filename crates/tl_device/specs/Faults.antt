@@ -1,4 +1,4 @@
--- Why a device failed: what the system's kinds of errors are told as, and the words of each.
+-- Why a device failed: the fault for each kind of error of the system, and its words.
 use Rattle.std.specs.Prelude.{ℕ, List, codes, decimal}
 use Rattle.std.specs.declared.io.ErrorKind.{ErrorKind}
 use Rattle.std.specs.declared.io.ErrorKind.TheVariants as kind
@@ -7,7 +7,7 @@ use Rattle.tl_device.specs.declared.counted.InputFault.TheVariants as input
 use Rattle.tl_device.specs.declared.fault.DeviceFault.{DeviceFault}
 use Rattle.tl_device.specs.declared.fault.DeviceFault.TheVariants.{NotThere, Taken, Denied, ReadOnly, Full, NotPlain, NotFolder, Moved, Busy, TooLarge, Damaged, Older, NoHost, NoConnection, Unreachable, TimedOut, Broken, Status, NotHttp, Encoded, BadLength, BadChunk, CutShort, OutOfMemory, System}
 
--- what an error of this kind is told as
+-- the fault for an error of this kind
 abbrev pub after_kind : ErrorKind → DeviceFault
 after_kind kind.NotFound = NotThere
 after_kind kind.AlreadyExists = Taken
@@ -29,13 +29,13 @@ after_kind kind.BrokenPipe = Broken
 after_kind kind.OutOfMemory = OutOfMemory
 after_kind _ = System
 
--- what a fault of reading an input whole is told as
+-- the fault for a fault of reading a whole input
 abbrev pub after_input : InputFault → DeviceFault
 after_input input.Read = System
 after_input input.TooLarge = TooLarge
 after_input input.OutOfMemory = OutOfMemory
 
--- what a fault says
+-- the words of a fault
 abbrev pub device_words : DeviceFault → List ℕ
 device_words NotThere = codes "not there"
 device_words Taken = codes "already there"

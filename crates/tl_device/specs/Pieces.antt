@@ -1,4 +1,4 @@
--- A text in pieces.
+-- Texts in pieces.
 use Rattle.std.specs.Prelude.{ℕ, List}
 use Rattle.std.specs.List.{flat_map}
 

@@ -1,4 +1,4 @@
-//! Readers and writers that remember whether they failed: one call of each, a whole input, a whole text.
+//! Readers and writers that remember whether they failed: single calls, a whole input, a whole text.
 
 ghost use Rattle.std.specs.Prelude.{◌≡◌, ◌<◌, ◌≤◌, false, true, length, take, IfSome, IfNone, OnSome, OnOk, OnErr};
 ghost use Rattle.std.specs.Io.KnownBytes.{Appends, Keeps, Consumes, IsAtEnd};
@@ -10,8 +10,8 @@ use std::io::{Read, Write};
 use std::marker::Model;
 use thiserror::Error;
 
-/// A reader or a writer, and whether a call of it ever failed. An interrupted call and a write that takes no byte count
-/// as failures.
+/// A reader or a writer, and whether a call of it ever failed. An interrupted call counts as failed, and so does a
+/// write that takes no byte.
 #[derive(Drop)]
 pub struct Counted<D> {
     device: D,
@@ -27,7 +27,7 @@ impl<D> Model for Counted<D> {
 }
 
 impl<D> Counted<D> {
-    /// A device of which no call has failed.
+    /// Wraps a device of which no call has failed.
     pub fn new(device: D) -> Counted<D>
         ensures { result ≡ record { device = device; failed = false } }
     {
@@ -37,7 +37,7 @@ impl<D> Counted<D> {
         }
     }
 
-    /// Gives the device back.
+    /// Returns the device.
     pub fn into_inner(self) -> D
         ensures { result ≡ self.device }
     {
@@ -48,7 +48,7 @@ impl<D> Counted<D> {
         device
     }
 
-    /// Whether a call of the device has failed.
+    /// Reports whether a call of the device has failed.
     pub fn failed(&self) -> bool
         ensures { result ≡ self.now.failed }
     {
@@ -62,17 +62,17 @@ pub enum InputFault {
     /// A read failed.
     #[error("read failed")]
     Read,
-    /// The input has more bytes than were to be read.
+    /// The input is longer than the limit.
     #[error("input too large")]
     TooLarge,
-    /// A growth was refused.
+    /// Allocation failed.
     #[error("out of memory")]
     OutOfMemory,
 }
 
 impl<R: Read> Counted<R> {
-    /// One read of the device, which gives the number of bytes read, 0 at its end. None where it failed: any error of
-    /// the device is a failure.
+    /// Reads once from the device. Returns the number of bytes read, which is 0 only at its end or for an empty
+    /// buffer, or `None` if the read failed. Any error of the device is a failure.
     pub fn read_some(&mut self, buf: &mut [u8]) -> Option<usize>
         ensures bound { IfSome result (λ n. n ≤ length buf.new) }
         ensures consumed { IfSome result (λ n.
@@ -92,8 +92,8 @@ impl<R: Read> Counted<R> {
     }
 }
 
-/// All bytes that the reader gives. A failed read is `Read`, more than `most` bytes are `TooLarge`. It asks for memory
-/// as bytes come, and for none where there are none.
+/// Returns all bytes that the reader gives. It fails with `Read` if a read fails, and with `TooLarge` if there are
+/// more than `most` bytes. It allocates as bytes come, and nothing if there are none.
 pub fn read_whole<A: Allocator, R: Read>(
     alloc: A,
     reader: &mut Counted<R>,
@@ -123,8 +123,8 @@ pub fn read_whole<A: Allocator, R: Read>(
 pub struct WriteFault;
 
 impl<W: Write> Counted<W> {
-    /// One write of some bytes to the device, which gives the number of bytes taken. None where it failed: an error of
-    /// the device, or a write that takes nothing.
+    /// Writes some bytes to the device in one call. Returns the number of bytes taken, or `None` if the write failed:
+    /// the device reported an error, or took nothing.
     pub fn write_some(&mut self, bytes: &[u8]) -> Option<usize>
         requires { 0 < length bytes.now }
         ensures bound { IfSome result (λ n. (0 < n) × (n ≤ length bytes.now)) }
@@ -145,7 +145,7 @@ impl<W: Write> Counted<W> {
     }
 }
 
-/// Writes the whole text. After a fault a prefix of the text was written.
+/// Writes the whole text. If it fails, a prefix of the text is written.
 pub fn write_whole<W: Write>(writer: &mut Counted<W>, text: &[u8]) -> Result<(), WriteFault>
     ensures whole { OnOk result (WroteWhole (passage W.contents writer.old writer.new) text.now) }
     ensures part { OnErr result (WrotePart (passage W.contents writer.old writer.new) text.now) }

@@ -14,29 +14,29 @@ use std::io::{self, ErrorKind};
 /// Why a file, a folder or a host failed.
 #[derive(Clone, Copy, Debug, PartialEq, Eq)]
 pub enum DeviceFault {
-    /// Nothing is there.
+    /// There is nothing at the path.
     NotThere,
-    /// Something is there already.
+    /// There is something already.
     Taken,
     /// The system doesn't permit it.
     Denied,
     /// The file system is read only.
     ReadOnly,
-    /// There is no room for it.
+    /// There is no space left.
     Full,
-    /// Something else than a plain file is there: a link, a folder, a pipe or a device.
+    /// Something other than a plain file is there: a link, a folder, a pipe or a device.
     NotPlain,
-    /// Something else than a folder is there.
+    /// Something other than a folder is there.
     NotFolder,
-    /// At the path is another file or folder than the one that was opened there, or none.
+    /// The file or folder that was opened is no longer at its path.
     Moved,
     /// Another process holds the lock.
     Busy,
-    /// There are more bytes than are taken.
+    /// It has more bytes than the limit.
     TooLarge,
-    /// The bytes that are there aren't those that belong there.
+    /// Its bytes aren't what they must be.
     Damaged,
-    /// One that came later was there before.
+    /// A newer one was there before.
     Older,
     /// The name of the host can't be looked up.
     NoHost,
@@ -44,13 +44,13 @@ pub enum DeviceFault {
     NoConnection,
     /// The host can't be reached.
     Unreachable,
-    /// The time was over.
+    /// It took too long.
     TimedOut,
     /// The connection broke.
     Broken,
     /// The host answered with this status, which isn't 200.
     Status(u16),
-    /// What the host answered is no response over HTTP/1.0 or HTTP/1.1.
+    /// The host's answer isn't a response of HTTP/1.0 or HTTP/1.1.
     NotHttp,
     /// The body of the response is encoded.
     Encoded,
@@ -60,7 +60,7 @@ pub enum DeviceFault {
     BadChunk,
     /// The connection ended before the body of the response did.
     CutShort,
-    /// A growth was refused.
+    /// Allocation failed.
     OutOfMemory,
     /// The system failed in another way.
     System,

@@ -1,14 +1,20 @@
-//! Readers and writers that remember whether they failed: reading a whole input, writing a whole text, also
-//! in pieces. Plain files that are read whole. Connections that have to end in time. Why a file, a folder or a host
-//! failed.
+//! Readers and writers that remember whether they failed, and the reasons for which files, folders and hosts fail.
 //!
-//! ```
+//! A `Counted` is a reader or a writer with a flag that is set when a call of it fails, and never cleared. So a
+//! contract can say of a run of calls what was read or written, and whether the device failed, without a list of the
+//! calls. `read_whole` reads a whole input up to a limit, and `write_whole` and `write_pieces` write a whole text:
+//!
+//! ```rust
 //! let mut reader = Counted::new(b"two\nlines\n".as_slice());
-//! assert_eq!(read_whole(alloc, &mut reader, 100)?.len(), 10);
+//! assert_eq!(rt; read_whole(alloc, &mut reader, 100)?.len(), 10);
 //! let mut reader = Counted::new(b"two\nlines\n".as_slice());
-//! assert_eq!(read_whole(alloc, &mut reader, 9), Err(InputFault::TooLarge));
-//! assert!(!reader.failed());
+//! assert_eq!(rt; read_whole(alloc, &mut reader, 9), Err(InputFault::TooLarge));
+//! assert!(rt; !reader.failed());
 //! ```
+//!
+//! `read_plain` reads a plain file whole. A `Timed` is a connection that may take a limited time in all. A
+//! `DeviceFault` is the reason why a file, a folder or a host failed: it is made from an error of the system by
+//! `From`, and printed by `Display`.
 #![tactic(auto)]
 
 mod counted;

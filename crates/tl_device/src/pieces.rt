@@ -1,4 +1,4 @@
-//! A text in pieces, written with as few calls as can be and without memory.
+//! A text in pieces, written with few calls and without allocation.
 
 ghost use Rattle.std.specs.Prelude.{◌≡◌, ◌++◌, OnOk, OnErr};
 ghost use Rattle.tl_device.specs.Device.{passage, WroteWhole, WrotePart};
@@ -9,10 +9,10 @@ use crate::counted::{Counted, WriteFault, write_whole};
 use arrayvec::ArrayVec;
 use std::io::Write;
 
-// How many bytes are kept before they are written.
+// The number of bytes that are kept before they are written.
 const ROOM: usize = 16_384;
 
-// Keeps the bytes where there is room for them. Else what was kept is written, and then they are kept or written.
+// Keeps the bytes if there is room for them. Otherwise writes what is kept, and then keeps or writes the bytes.
 fn put<W: Write>(
     writer: &mut Counted<W>,
     kept: &mut ArrayVec<u8, ROOM>,
@@ -34,8 +34,8 @@ fn put<W: Write>(
     write_whole(writer, bytes)
 }
 
-/// Writes the pieces, one after another, in one write where they fit into 16,384 bytes of stack. It takes no memory. It
-/// fails where a write did, or took no byte; then some of the pieces' first bytes were written.
+/// Writes the pieces, one after another, in one write if they fit into a buffer of 16,384 bytes on the stack. It
+/// allocates nothing. It fails if a write fails or takes no byte; then some of the first bytes are written.
 pub fn write_pieces<W: Write>(writer: &mut Counted<W>, pieces: &[&[u8]]) -> Result<(), WriteFault>
     ensures whole { OnOk result (WroteWhole
         (passage W.contents writer.old writer.new) (pieces_text (λ p. p.now) pieces.now)) }

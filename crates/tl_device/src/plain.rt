@@ -1,4 +1,4 @@
-//! A plain file that is read whole.
+//! Plain files that are read whole.
 
 ghost use Rattle.std.specs.Prelude.{◌≡◌, ◌≤◌, Err, IfErr, IfOk, length};
 ghost use Rattle.std.specs.Fs.{IsFile, file_type};
@@ -11,10 +11,10 @@ use std::alloc::Allocator;
 use std::fs::{File, Files, Metadata};
 use std::io;
 
-/// The bytes of the plain file at a path of which the system told this, at most `most` of them; a link is followed if
-/// `told` did. `NotPlain`: something else is there, as a FIFO, whose opening waits for a writer. `TooLarge`: the file
-/// has more bytes. (The look and the opening are two calls: who may write there can put another thing there in
-/// between.)
+/// Reads the plain file at a path, of at most `most` bytes. `told` is the metadata of the path; if it was read
+/// through a link, the link is followed. It fails with `NotPlain` if the metadata is of a link or of something else,
+/// such as a FIFO, whose opening waits for a writer, and with `TooLarge` if the file is longer. The metadata and the
+/// opening are two calls: whoever may write the folder can put another file there in between.
 pub fn read_plain<A: Allocator, H: Files>(
     alloc: A,
     files: &H,

@@ -1,4 +1,4 @@
-//! A connection that has to end in time.
+//! Connections that have to end in time.
 
 ghost use Rattle.std.specs.Prelude.{◌≡◌};
 
@@ -8,8 +8,8 @@ use std::marker::Model;
 use std::net::TcpStream;
 use std::time::{Clock, Duration, Instant};
 
-/// A connection, and how long it may take in all: a read or a write fails once no time is left. Contracts see the time
-/// that it may take.
+/// A connection with a limit on the time that it takes in all. A read or a write fails once no time is left.
+/// Contracts see the limit.
 #[derive(Drop)]
 pub struct Timed<'s, H: Clock> {
     rt: &'s H,
@@ -27,7 +27,7 @@ impl<'s, H: Clock> Model for Timed<'s, H> {
 }
 
 impl<'s, H: Clock> Timed<'s, H> {
-    /// A connection that began at `start`, and that may take `limit` from then on.
+    /// Returns a connection that began at `start`, and may take `limit` from then on.
     pub fn new(rt: &'s H, stream: &'s TcpStream, start: Instant, limit: Duration) -> Timed<'s, H>
         ensures { result ≡ limit }
     {
@@ -39,7 +39,7 @@ impl<'s, H: Clock> Timed<'s, H> {
         }
     }
 
-    // What is left of the time. A timeout of 0, where none is left, is refused by the system.
+    // Returns the time that is left. If it is 0, the system refuses it as a timeout, and the call fails.
     fn left(&self) -> io::Result<Duration> {
         Ok(self.limit.saturating_sub(self.start.elapsed(self.rt)?))
     }

@@ -17,7 +17,7 @@ scaled t d q =
     let same : t * 2 * d ≡ t * (2 * d) = omega arith in
     ap (λ n. n * q % prime) (mod_first prime (t * 2) d ∙ ap (λ n. n % prime) same ∙ sym (mul-mod_second t (2 * d) prime))
 
--- the same where the last factor is
+-- the same if the last factor is
 pub scaled_last : (t d q : ℕ) → mul (mul (mul t 2) d) q ≡ mul t (mul q (mul 2 d))
 unfolding mul
 scaled_last t d q =

@@ -1,4 +1,5 @@
--- RFC 8032, section 7.1, TEST 1, computed from the definitions: the public key of its seed, and the signature of no bytes.
+-- RFC 8032, section 7.1, TEST 1, computed from the definitions: the public key of its seed, and the signature of no
+-- bytes.
 use Rattle.std.proofs.Common.{◌≡◌, ℕ, ◌+◌, ◌*◌, ◌%◌, List, [], ◌∷◌, ◌++◌, drop, refl, sym, ap, ◌∙◌}
 use Rattle.sha2.specs.Sha512.{sha512, hash_after, compress, rounds, schedule, first_words, digest_bytes}
 use Rattle.tl_ed25519.specs.Field.{add, sub, mul}

@@ -1,11 +1,11 @@
-//! A point as the second of two that are added.
+//! A point prepared to be the second one of a sum.
 
 ghost use Rattle.tl_ed25519.specs.Inner.Sums as sums;
 
 use crate::field::Field;
 use std::marker::Model;
 
-// What a sum needs of its second point: y - x, y + x, z, and t by twice the constant d.
+// What a sum needs of its second point: y - x, y + x, z, and t multiplied by twice the constant d.
 #[derive(Drop)]
 pub(crate) struct Cached {
     pub(crate) less: Field,

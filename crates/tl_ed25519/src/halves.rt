@@ -2,7 +2,7 @@
 
 ghost use Rattle.std.specs.Prelude.{◌≡◌, ◌++◌, length, take, drop};
 
-// The first 32 bytes.
+// Returns the first 32 bytes.
 pub(crate) fn first_half(bytes: &[u8; 64]) -> &[u8]
     ensures value { result.now ≡ take 32 bytes.now }
     ensures size { length result.now ≡ 32 }
@@ -10,7 +10,7 @@ pub(crate) fn first_half(bytes: &[u8; 64]) -> &[u8]
     &bytes[..32]
 }
 
-// The last 32 bytes.
+// Returns the last 32 bytes.
 pub(crate) fn second_half(bytes: &[u8; 64]) -> &[u8]
     ensures value { result.now ≡ drop 32 bytes.now }
     ensures size { length result.now ≡ 32 }
@@ -18,7 +18,7 @@ pub(crate) fn second_half(bytes: &[u8; 64]) -> &[u8]
     &bytes[32..]
 }
 
-// A half as an array of its own.
+// Returns a copy of a half as an array.
 pub(crate) fn copy_of(half: &[u8]) -> [u8; 32]
     requires { length half.now ≡ 32 }
     ensures { result ≡ half.now }
@@ -28,7 +28,7 @@ pub(crate) fn copy_of(half: &[u8]) -> [u8; 32]
     copy
 }
 
-// The 64 bytes of two halves.
+// Returns two halves as 64 bytes.
 pub(crate) fn join(first: &[u8; 32], second: &[u8; 32]) -> [u8; 64]
     ensures { result ≡ first.now ++ second.now }
 {

@@ -1,4 +1,4 @@
-//! Digests by SHA-512, and the numbers mod L that they are (RFC 8032, section 5.1.6).
+//! SHA-512 digests, also as numbers mod L (RFC 8032, section 5.1.6).
 
 ghost use Rattle.std.specs.Prelude.{◌≡◌, ◌++◌};
 ghost use Rattle.sha2.specs.Sha512.{sha512};
@@ -8,14 +8,14 @@ use crate::scalar;
 use crate::words::Words;
 use sha2::{Digest, Sha512};
 
-// The digest of a message.
+// Returns the digest of a message.
 pub(crate) fn digest_of(message: &[u8]) -> [u8; 64]
     ensures { result ≡ sha512 message.now }
 {
     Sha512::digest(message)
 }
 
-// The digest of two pieces, one after the other.
+// Returns the digest of two pieces, one after the other.
 fn digest_of_two(first: &[u8], second: &[u8]) -> [u8; 64]
     ensures { result ≡ sha512 (first.now ++ second.now) }
 {
@@ -25,7 +25,7 @@ fn digest_of_two(first: &[u8], second: &[u8]) -> [u8; 64]
     hasher.finalize()
 }
 
-// The digest of three pieces, one after the other.
+// Returns the digest of three pieces, one after the other.
 fn digest_of_three(first: &[u8], second: &[u8], third: &[u8]) -> [u8; 64]
     ensures { result ≡ sha512 (first.now ++ second.now ++ third.now) }
 {
@@ -36,14 +36,14 @@ fn digest_of_three(first: &[u8], second: &[u8], third: &[u8]) -> [u8; 64]
     hasher.finalize()
 }
 
-// The digest of two pieces as a number mod L.
+// Returns the digest of two pieces as a number mod L.
 pub(crate) fn number_of_two(first: &[u8], second: &[u8]) -> Words
     ensures { result ≡ hash_number (first.now ++ second.now) }
 {
     scalar::reduce(&digest_of_two(first, second))
 }
 
-// The digest of three pieces as a number mod L.
+// Returns the digest of three pieces as a number mod L.
 pub(crate) fn number_of_three(first: &[u8], second: &[u8], third: &[u8]) -> Words
     ensures { result ≡ hash_number (first.now ++ second.now ++ third.now) }
 {

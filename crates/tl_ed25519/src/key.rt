@@ -15,8 +15,8 @@ use std::marker::Model;
 
 /// The secret key of a seed, which signs. A contract sees it as the seed's bytes.
 ///
-/// It keeps what every signature needs of the seed: the secret number, the prefix and the public key
-/// (RFC 8032, section 5.1.5). Its memory isn't erased when it is dropped.
+/// It keeps what every signature needs: the secret number, the prefix and the public key (RFC 8032, section 5.1.5).
+/// Its memory isn't erased when it is dropped.
 #[derive(Drop)]
 pub struct SecretKey {
     seed: [u8; 32],
@@ -38,7 +38,7 @@ impl Model for SecretKey {
         × (k.prefix ≡ drop 32 (sha512 k.seed)) × (k.public ≡ public_key k.seed) };
 }
 
-// The secret number of a seed's digest.
+// Returns the secret number of a seed's digest.
 fn secret_of(digest: &[u8; 64]) -> Words
     ensures { result ≡ clamp (little_endian (take 32 digest.now)) }
 {
@@ -46,7 +46,7 @@ fn secret_of(digest: &[u8; 64]) -> Words
     number.clamp()
 }
 
-// The bytes of a multiple of the base point.
+// Returns the encoding of a multiple of the base point.
 fn multiple_of_base(scalar: Words) -> [u8; 32]
     ensures { result ≡ curve.encode (curve.multiply scalar curve.base_point) }
 {
@@ -55,7 +55,7 @@ fn multiple_of_base(scalar: Words) -> [u8; 32]
 }
 
 impl SecretKey {
-    /// The secret key of a seed of 32 bytes, which are to be random and known to no one else. It never fails.
+    /// Returns the secret key of a seed of 32 bytes, which must be random and known to no one else. It never fails.
     pub fn new(seed: &[u8; 32]) -> SecretKey
         ensures { result ≡ seed.now }
     {
@@ -71,21 +71,21 @@ impl SecretKey {
         }
     }
 
-    /// The seed that it was made of.
+    /// Returns the seed of the key.
     pub fn seed(&self) -> &[u8; 32]
         ensures { result.now ≡ self.now }
     {
         &self.seed
     }
 
-    /// The public key: the 32 bytes of a point (RFC 8032, section 5.1.5).
+    /// Returns the public key: 32 bytes, the encoding of a point (RFC 8032, section 5.1.5).
     pub fn public_key(&self) -> &[u8; 32]
         ensures { result.now ≡ public_key self.now }
     {
         &self.public
     }
 
-    /// The signature of a message of any length: the 32 bytes of R, then the 32 bytes of S, low byte first
+    /// Returns the signature of a message of any length: the 32 bytes of R, then the 32 bytes of S, lowest byte first
     /// (RFC 8032, section 5.1.6). The same message always gets the same signature. It never fails.
     pub fn sign(&self, message: &[u8]) -> [u8; 64]
         ensures { result ≡ sign self.now message.now }
@@ -99,7 +99,7 @@ impl SecretKey {
     }
 }
 
-/// The public key of a seed: the 32 bytes of a point (RFC 8032, section 5.1.5). It never fails.
+/// Returns the public key of a seed: 32 bytes, the encoding of a point (RFC 8032, section 5.1.5). It never fails.
 pub fn public_key(seed: &[u8; 32]) -> [u8; 32]
     ensures { result ≡ public_key seed.now }
 {
@@ -107,9 +107,9 @@ pub fn public_key(seed: &[u8; 32]) -> [u8; 32]
     *key.public_key()
 }
 
-/// The signature of a message of any length under a seed (RFC 8032, section 5.1.6). It never fails.
+/// Returns the signature of a message of any length under a seed (RFC 8032, section 5.1.6). It never fails.
 ///
-/// It makes the `SecretKey` anew, which costs as much again: to sign more than once, keep one.
+/// It makes a `SecretKey` of the seed each time, which doubles the cost. To sign more than once, keep a `SecretKey`.
 pub fn sign(seed: &[u8; 32], message: &[u8]) -> [u8; 64]
     ensures { result ≡ sign seed.now message.now }
 {

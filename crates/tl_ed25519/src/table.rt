@@ -1,4 +1,4 @@
-//! The doublings of the base point, by which its multiples are sums.
+//! The doublings of the base point. Each multiple of the base point is a sum of them.
 
 ghost use Rattle.std.specs.Prelude.{◌≡◌, ◌<◌};
 ghost use Rattle.tl_ed25519.specs.Curve.{base_point};
@@ -16,7 +16,7 @@ use more_rows::MORE;
 use t_rows::T;
 use z_rows::Z;
 
-// 2^i * B, with the very coordinates that doubling B i times gives.
+// Returns 2^i * B, with the coordinates that doubling B i times gives.
 pub(crate) fn doubled_base(i: u32) -> Cached
     requires { i < 256 }
     ensures { result ≡ cached_of (doubled i base_point) }

@@ -10,7 +10,7 @@ use crate::hashing::number_of_three;
 use crate::point::Point;
 use crate::words::Words;
 
-// The bytes that R must have, where the key is a point.
+// Returns the bytes that R must have, or `None` if the key is no point.
 fn expected_point(key: &[u8; 32], s: Words, k: Words) -> Option<[u8; 32]>
     ensures { result ≡ expected (curve.decode key.now) s k }
 {
@@ -24,18 +24,19 @@ fn expected_point(key: &[u8; 32], s: Words, k: Words) -> Option<[u8; 32]>
     Some(sum.encode())
 }
 
-// Whether two runs of bytes are equal.
+// Reports whether two byte strings are equal.
 fn equal_bytes(first: &[u8], second: &[u8]) -> bool
     ensures { result ≡ bytes_eq first.now second.now }
 {
     first == second
 }
 
-/// Whether a signature of a message stands under a public key (RFC 8032, section 5.1.7, with no cofactor).
+/// Reports whether a signature of a message is valid under a public key (RFC 8032, section 5.1.7, without the
+/// cofactor).
 ///
-/// It is false where the key is no point's canonical spelling, where S isn't below L, and where the bytes of R
-/// aren't those of S * B - k * A. It takes keys of small order: `is_valid_public_key` tells them.
-/// Its time depends on what it is given, and all of that is public.
+/// It is false if the key isn't the canonical encoding of a point, if S isn't below L, and if R isn't the encoding of
+/// S * B - k * A. Keys of small order are accepted: check a key with `is_valid_public_key`. Its time depends on its
+/// arguments, which are all public.
 pub fn verify(key: &[u8; 32], message: &[u8], signature: &[u8; 64]) -> bool
     ensures { result ≡ accepts key.now message.now signature.now }
 {
@@ -52,7 +53,7 @@ pub fn verify(key: &[u8; 32], message: &[u8], signature: &[u8; 64]) -> bool
     false
 }
 
-// Whether 8 times a point is the neutral one.
+// Reports whether 8 times a point is the neutral one.
 fn has_small_order(point: Point) -> bool
     ensures { result ≡ has_small_order point }
 {
@@ -63,11 +64,11 @@ fn has_small_order(point: Point) -> bool
     equal_bytes(&bytes, &neutral_bytes)
 }
 
-/// Whether 32 bytes are a public key fit for use.
+/// Reports whether 32 bytes are a public key fit for use.
 ///
-/// It is true where they are the one canonical spelling of a point (RFC 8032, section 5.1.3), and 8, the curve's
-/// cofactor (section 5.1), times that point isn't the neutral point. Under a key of small order anyone can make
-/// signatures that stand.
+/// It is true if they are the one canonical encoding of a point (RFC 8032, section 5.1.3) and 8, the curve's cofactor
+/// (section 5.1), times that point isn't the neutral point. Under a key of small order anyone can make valid
+/// signatures.
 pub fn is_valid_public_key(key: &[u8; 32]) -> bool
     ensures { result ≡ is_valid_public_key key.now }
 {

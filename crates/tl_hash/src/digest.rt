@@ -1,4 +1,4 @@
-//! Digest functions that a tree can be hashed with.
+//! Digest functions for the hashes of a tree.
 
 ghost use Rattle.std.specs.Prelude.{◌≡◌, ℕ, ◌+◌, ◌*◌, ◌/◌, ◌<◌, [], ◌∷◌, ◌++◌, length, slice_index_or};
 ghost use Rattle.sha2.specs.Sha256.{sha256};
@@ -9,17 +9,17 @@ use crate::hash::Hash;
 use sha2::{Digest, Sha256};
 use tl_lanes::{digest_pairs4, digest4};
 
-/// A digest function H from byte strings to hashes. It belongs to the type: two values of one type have the same H.
+/// A digest function H, from byte strings to hashes. H belongs to the type: two values of one type have the same H.
 pub trait TreeHash: Copy {
     /// H: the digest of a byte string.
     ghost digest_of: { Bytes → Bytes };
 
-    /// The digest of three pieces taken as one message.
+    /// Returns the digest of three pieces, taken as one message.
     fn digest(&self, a: &[u8], b: &[u8], c: &[u8]) -> Hash
         ensures { result ≡ digest_of (a.now ++ b.now ++ c.now) };
 
-    /// The digests of four messages, in order: each is the byte `tag` and then `a`, `b`, `c` or `d`. A type can take
-    /// them side by side; as it stands here they are taken one after the other.
+    /// Returns the digests of four messages, in order: the byte `tag`, and then `a`, `b`, `c` or `d`. By default it
+    /// hashes one after another. A type can hash them side by side.
     fn digest_four(&self, tag: u8, a: &[u8], b: &[u8], c: &[u8], d: &[u8]) -> [Hash; 4]
         ensures a { slice_index_or result 0 [] ≡ digest_of (tag ∷ a.now) }
         ensures b { slice_index_or result 1 [] ≡ digest_of (tag ∷ b.now) }
@@ -34,8 +34,8 @@ pub trait TreeHash: Copy {
         ]
     }
 
-    /// The digests of four messages of 65 bytes: digest `j` is of the byte `tag`, then hash `2 * j` and then hash
-    /// `2 * j + 1`, where the first hash is 0. A type can take them side by side, as in `digest_four`.
+    /// Returns the digests of four messages of 65 bytes. Digest `j`, counted from 0, is of the byte `tag`, hash `2 *
+    /// j` and hash `2 * j + 1`. A type can hash them side by side, as in `digest_four`.
     fn digest_pairs(&self, tag: u8, hashes: &[Hash; 8]) -> [Hash; 4]
         ensures pairs { (j : ℕ) → j < 4 → slice_index_or result j [] ≡ digest_of (tag
             ∷ (slice_index_or hashes.now (2 * j) [] ++ slice_index_or hashes.now (2 * j + 1) [])) }
@@ -56,15 +56,15 @@ pub trait TreeHash: Copy {
 #[derive(Clone, Copy, Debug)]
 pub struct Sha256Tree;
 
-// How many blocks SHA-256 pads a message to: a byte, and then `rest`.
+// Returns the number of blocks that SHA-256 pads a message to, which is a byte and then `rest`.
 pub(crate) fn block_count(rest: &[u8]) -> usize
     ensures { result ≡ (length rest.now + 9) / 64 + 1 }
 {
     (rest.len() + 9) / 64 + 1
 }
 
-// Whether four such messages are better taken side by side than one after another: together they have twice as many
-// blocks as the longest, or more. (Four blocks side by side take less than twice as long as one.)
+// Reports whether it is faster to hash four such messages side by side than one after another: together they have at
+// least twice as many blocks as the longest. (Four blocks side by side take less than twice as long as one.)
 fn fill_lanes(a: &[u8], b: &[u8], c: &[u8], d: &[u8]) -> bool {
     let (a, b) = (block_count(a), block_count(b));
     let (c, d) = (block_count(c), block_count(d));

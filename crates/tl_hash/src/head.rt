@@ -2,7 +2,7 @@
 
 use crate::hash::Hash;
 
-/// A size of a log, and the Merkle tree hash of its first so many entries (RFC 6962, section 2.1).
+/// The size of a log, and the Merkle tree hash of its first `size` entries (RFC 6962, section 2.1).
 #[derive(Clone, Copy, Debug, PartialEq, Eq)]
 pub struct Head {
     pub size: u64,

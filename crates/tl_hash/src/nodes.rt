@@ -6,8 +6,8 @@ ghost use Rattle.tl_hash.specs.Tree.{node_input};
 use crate::digest::TreeHash;
 use crate::hash::Hash;
 
-/// The hashes of four nodes (RFC 6962, section 2.1): node `j` is over hash `j` of `left` and hash `j` of `right`, where
-/// the first is 0.
+/// Returns the hashes of four nodes (RFC 6962, section 2.1). Node `j`, counted from 0, is over `left[j]` and
+/// `right[j]`.
 pub fn hash_level<T: TreeHash>(h: T, left: &[Hash; 4], right: &[Hash; 4]) -> [Hash; 4]
     ensures { (j : ℕ) → j < 4 → slice_index_or result j []
         ≡ T.digest_of (node_input (slice_index_or left.now j []) (slice_index_or right.now j [])) }
@@ -18,8 +18,8 @@ pub fn hash_level<T: TreeHash>(h: T, left: &[Hash; 4], right: &[Hash; 4]) -> [Ha
     h.digest_pairs(1, &pairs)
 }
 
-/// The hashes of the nodes over four pairs of hashes that stand side by side (RFC 6962, section 2.1): node `j` is over
-/// hashes `from + 2 * j` and the one after it, where the first is 0. `level` has at least `from + 8` hashes.
+/// Returns the hashes of the nodes over four pairs of neighbours of a level (RFC 6962, section 2.1). Node `j`,
+/// counted from 0, is over `level[from + 2 * j]` and the hash after it. `level` has at least `from + 8` hashes.
 pub fn hash_four_nodes<T: TreeHash>(h: T, level: &[Hash], from: usize) -> [Hash; 4]
     requires { from + 8 ≤ length level.now }
     ensures { (j : ℕ) → j < 4 → slice_index_or result j []

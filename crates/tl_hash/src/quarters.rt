@@ -1,4 +1,4 @@
-//! Trees over lists of one length, hashed side by side.
+//! Trees over four lists of one length, hashed side by side.
 
 ghost use Rattle.std.specs.Prelude.{◌≡◌, ◌*◌, ◌<◌, [], length, map, slice_index_or, vec_items};
 ghost use Rattle.std.specs.Int.{IsPowerOfTwo};
@@ -11,8 +11,8 @@ use crate::split::split_point;
 use crate::tree::node_hash;
 use std::alloc::Allocator;
 
-/// The Merkle tree hashes of four lists of equally many entries, one or more (RFC 6962, section 2.1). The recursion
-/// goes down the four lists in step.
+/// Returns the Merkle tree hashes of four lists with the same number of entries, at least one (RFC 6962, section
+/// 2.1). The recursion goes down the four lists in step.
 pub(crate) fn four_roots<T: TreeHash, A: Allocator>(
     h: T,
     a: &[Vec<u8, A>],
@@ -38,8 +38,8 @@ pub(crate) fn four_roots<T: TreeHash, A: Allocator>(
     hash_level(h, &left, &right)
 }
 
-/// The Merkle tree hash of a list of four times `q` entries (RFC 6962, section 2.1), by its quarters side by side. `q`
-/// is a power of two.
+/// Returns the Merkle tree hash of a list of `4 * q` entries (RFC 6962, section 2.1). Its four quarters are hashed
+/// side by side. `q` is a power of two.
 pub(crate) fn quarters_root<T: TreeHash, A: Allocator>(
     h: T,
     entries: &[Vec<u8, A>],

@@ -1,4 +1,4 @@
-//! The hashes of a Merkle tree: of no entries, of a leaf, of a node and of a whole list.
+//! The hashes of a Merkle tree: of no entries, of one entry, of a node and of a whole list.
 
 ghost use Rattle.std.specs.Prelude.{◌≡◌, [], length, map, vec_items};
 ghost use Rattle.tl_hash.specs.Tree.{leaf_input, node_input, tree_hash};
@@ -9,30 +9,30 @@ use crate::quarters::quarters_root;
 use crate::split::split_point;
 use std::alloc::Allocator;
 
-/// The hash of no entries, H of no bytes (RFC 6962, section 2.1).
+/// Returns the hash of no entries, H of no bytes (RFC 6962, section 2.1).
 pub fn empty_hash<T: TreeHash>(h: T) -> Hash
     ensures { result ≡ T.digest_of [] }
 {
     h.digest(&[], &[], &[])
 }
 
-/// The hash of one entry, H(0x00 || entry) (RFC 6962, section 2.1).
+/// Returns the hash of one entry, H(0x00 || entry) (RFC 6962, section 2.1).
 pub fn leaf_hash<T: TreeHash>(h: T, entry: &[u8]) -> Hash
     ensures { result ≡ T.digest_of (leaf_input entry.now) }
 {
     h.digest(&[0], entry, &[])
 }
 
-/// The hash of a node over two hashes, H(0x01 || left || right) (RFC 6962, section 2.1).
+/// Returns the hash of a node over two hashes, H(0x01 || left || right) (RFC 6962, section 2.1).
 pub fn node_hash<T: TreeHash>(h: T, left: Hash, right: Hash) -> Hash
     ensures { result ≡ T.digest_of (node_input left right) }
 {
     h.digest(&[1], left.as_bytes(), right.as_bytes())
 }
 
-/// The Merkle tree hash of a list of entries, by the recursion of RFC 6962, section 2.1. A part whose number of entries
-/// is a power of two, 4 or more, is hashed by its quarters side by side. It takes no memory but one call's for each
-/// level of the tree.
+/// Returns the Merkle tree hash of a list of entries (RFC 6962, section 2.1). A part of 4 or more entries whose
+/// number is a power of two is hashed by its quarters, side by side. It allocates nothing, and recurses once for each
+/// level.
 #[tactic(auto, using(crate::proofs::TreeLemmas::tree_hash_of_none))]
 pub fn entry_root<T: TreeHash, A: Allocator>(h: T, entries: &[Vec<u8, A>]) -> Hash
     ensures { result ≡ tree_hash T.digest_of (map vec_items entries.now) }

@@ -7,15 +7,15 @@ use Rattle.httparse.specs.Grammar.{Field, AllPass}
 use Rattle.httparse.specs.Spans.{name_and_value}
 use Rattle.tl_hash.specs.Bytes.{Bytes}
 
--- names and values of fields, without the white space around a value
+-- the names and values of fields, without the white space around a value
 abbrev pub fields_of : List Field → List (Bytes × Bytes)
 fields_of fields = map name_and_value fields
 
--- the values of the fields with this name, whose case doesn't matter
+-- the values of the fields with this name, in any case
 abbrev pub values_of : Bytes → List (Bytes × Bytes) → List Bytes
 values_of name fields = map (λ f. f.1) (filter (λ f. str_eq_ignore_ascii_case f.0 name) fields)
 
--- the text is digits, at least one, and they write n
+-- the text is one or more digits, which write n
 pub record IsNumber (text : Bytes) (n : ℕ) : Type 0 where
   pub some : 0 < length text
   pub digits : AllPass is_ascii_digit text

@@ -18,8 +18,8 @@ pub enum Values<'b> {
     More,
 }
 
-/// The values of the fields with this name, whose case doesn't matter (RFC 9110, section 5.1). The headers are spans of
-/// the bytes.
+/// Returns the values of the fields with this name, in any case (RFC 9110, section 5.1). The headers are spans of
+/// `buf`.
 pub fn values_in<'b>(buf: &'b [u8], headers: &[HeaderSpan], name: &[u8]) -> Values<'b>
     requires { All (IsHeaderWithin (length buf.now)) headers.now }
     ensures { AreValues (values_of name.now (map (header_bytes buf.now) headers.now)) result }
@@ -38,8 +38,8 @@ pub fn values_in<'b>(buf: &'b [u8], headers: &[HeaderSpan], name: &[u8]) -> Valu
     }
 }
 
-/// The number that digits write, or 2^64 - 1 where it is above that. `None` where the text is no digits, or empty (RFC
-/// 9110, section 8.6).
+/// Reads a number in decimal digits, and returns 2^64 - 1 if it is larger. Returns `None` if the text is empty or not
+/// all digits (RFC 9110, section 8.6).
 pub fn number_in(text: &[u8]) -> Option<u64>
     ensures { MatchOption result ((n : ℕ) → ¬ (IsNumber text.now n))
         (λ m. (n : ℕ) × IsNumber text.now n × (m ≡ min n (2 ^ 64 - 1))) }

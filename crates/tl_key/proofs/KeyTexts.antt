@@ -31,7 +31,7 @@ verifier_parts kind text k is = record { name_is = is.name; eight = length-hex8 
 signer_parts : (kind : ℕ) (text public : List ℕ) (k : SeedKey) → text ≡ codes "PRIVATE+KEY+" ++ public → IsSignerText kind text k → HasParts public k.name (hex8 (key_id k.name k.kind (public_key k.seed))) (k.kind ∷ k.seed)
 signer_parts kind text public k begins is = record { name_is = is.name; eight = length-hex8 (key_id k.name k.kind (public_key k.seed)); fit = kind_first k.kind k.seed is.byte is.seed; spelled = ap (drop 12) (sym begins ∙ is.spelled) }
 
--- ---- a text that is refused
+-- ---- a text that is no key's
 
 -- digits are those of the identifier that the parts have
 wrong_digits : (n name digits key known : List ℕ) (asked kind id : ℕ) (t : Bool) → n ≡ name → asked ≡ kind → key ≡ known → digits ≡ hex8 (key_id name kind known)

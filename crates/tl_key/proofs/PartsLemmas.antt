@@ -1,4 +1,4 @@
--- The parts of a key's text: where they end, and that a text has them once.
+-- The parts of a key's text: their ends, and that a text has them once.
 use Rattle.std.proofs.Common.{◌≡◌, ℕ, ◌-◌, List, [], ◌∷◌, ◌++◌, length, take, drop, refl, sym, ap, subst, ◌∙◌, arith, All, Option, Bor}
 use Rattle.std.specs.Prelude.{◌≢◌, MatchOption, chars, encode_utf8, encode_utf8_all}
 use Rattle.std.specs.Int.{w32, to_be_bytes}

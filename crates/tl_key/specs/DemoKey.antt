@@ -15,10 +15,10 @@ pub record Demo : Type 0 where
   pub name : Bytes
   pub secret : Bytes
 
--- what it signs: its one signature of a message, which it never refuses
+-- the signing key: it gives one signature of a message, and refuses none
 abbrev pub demo_signing_key : Demo → SigningKey
 demo_signing_key k = record { name = k.name; id = demo_id k.name k.secret; may_give = λ message signature. bytes_eq signature (hmac k.secret message); may_refuse = λ message. false }
 
--- what it verifies: exactly that signature
+-- the verifying key: it accepts exactly that signature
 abbrev pub demo_verifier_key : Demo → Key
 demo_verifier_key k = record { name = k.name; id = demo_id k.name k.secret; accepts = λ message signature. bytes_eq signature (hmac k.secret message) }

@@ -3,15 +3,15 @@ use Rattle.std.specs.Prelude.{ℕ, ◌-◌, ◌++◌, length, map, replicate, na
 use Rattle.sha2.specs.Sha256.{sha256}
 use Rattle.tl_hash.specs.Bytes.{Bytes}
 
--- the secret, or its digest where it is longer than a block of 64 bytes
+-- the secret, or its digest if it is longer than a block of 64 bytes
 abbrev pub short_secret : Bytes → Bytes
 short_secret secret = if nat_lt 64 (length secret) then sha256 secret else secret
 
--- filled with zeros to a block
+-- the same, filled up with zeros to a block
 abbrev pub secret_block : Bytes → Bytes
 secret_block secret = short_secret secret ++ replicate (64 - length (short_secret secret)) 0
 
--- each byte of the block combined with the pad
+-- the block with each byte combined with the pad by exclusive or
 abbrev pub padded_secret : Bytes → ℕ → Bytes
 padded_secret secret pad = map (λ byte. bit_xor byte pad) (secret_block secret)
 

@@ -30,8 +30,8 @@ pub record Are32Bytes (bytes : Bytes) : Type 0 where
   pub size : length bytes ≡ 32
   pub fit : IsBytes bytes
 
--- the text is that of this verifier's key, which is of the type asked for; its public key is the one spelling of a
--- point that isn't of small order
+-- the text is that of this verifier's key, which is of the type asked for; its public key is the canonical encoding
+-- of a point that isn't of small order
 pub record IsVerifierText (kind : ℕ) (text : Bytes) (k : PublicKey) : Type 0 where
   pub name : IsKeyName k.name
   pub kind_asked : k.kind ≡ kind

@@ -1,4 +1,4 @@
--- What making a key and reading its text answer.
+-- What making a key and reading its text return.
 use Rattle.std.specs.Prelude.{◌≡◌, ℕ, true, false, Result, Ok, Err}
 use Rattle.tl_hash.specs.Bytes.{Bytes}
 use Rattle.tl_ed25519.specs.Eddsa.{is_valid_public_key}
@@ -8,14 +8,14 @@ use Rattle.tl_key.specs.declared.fault.KeyFault.TheVariants.{Malformed, BadName,
 use Rattle.tl_key.specs.NoteKey.{PublicKey, SeedKey}
 use Rattle.tl_key.specs.KeyText.{IsVerifierText, IsSignerText}
 
--- the text is that of no such key
+-- no such key has this text
 abbrev pub IsNoVerifierText : ℕ → Bytes → Type 0
 IsNoVerifierText kind text = (k : PublicKey) → IsVerifierText kind text k → ⊥
 
 abbrev pub IsNoSignerText : ℕ → Bytes → Type 0
 IsNoSignerText kind text = (k : SeedKey) → IsSignerText kind text k → ⊥
 
--- the key that a text is of, or that there is none; memory is asked for where there is one
+-- the key that has this text, or that there is none; memory is allocated only if there is one
 abbrev pub ReadsVerifier : ℕ → Bytes → Result PublicKey KeyFault → Type 0
 ReadsVerifier kind text (Ok k) = IsVerifierText kind text k
 ReadsVerifier kind text (Err Malformed) = IsNoVerifierText kind text
@@ -30,7 +30,7 @@ ReadsSigner kind text (Err BadName) = ⊥
 ReadsSigner kind text (Err Unsound) = ⊥
 ReadsSigner kind text (Err OutOfMemory) = (k : SeedKey) × IsSignerText kind text k
 
--- the key that was asked for; the name is looked at before the public key, and both before memory is asked for
+-- the key that was asked for; the name is checked before the public key, and both before memory is allocated
 abbrev pub MakesVerifier : PublicKey → Result PublicKey KeyFault → Type 0
 MakesVerifier wanted (Ok k) = (k ≡ wanted) × IsKeyName wanted.name × (is_valid_public_key wanted.key ≡ true)
 MakesVerifier wanted (Err Malformed) = ⊥

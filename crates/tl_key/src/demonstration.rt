@@ -1,4 +1,4 @@
-//! A key for demonstrations, as signer and verifier: HMAC with SHA-256. Its verifier holds the secret.
+//! A key for demonstrations: HMAC with SHA-256, as signer and verifier. The verifier has the secret.
 
 ghost use Rattle.std.specs.Prelude.{◌≡◌, ◌⊎◌, ◌++◌, ◌∷◌, IfOk, IfErr, codes};
 ghost use Rattle.sha2.specs.Sha256.{sha256};
@@ -12,7 +12,7 @@ use std::marker::Model;
 use tl_hash::{Hash, Sha256Tree, TreeHash};
 use tl_note::{NoteFault, SignFault, Signer, Verifier, is_key_name};
 
-// The digest of a key's name, its kind and its secret's digest.
+// Returns the digest of a key's name, its kind and its secret's digest.
 fn key_digest(name: &str, secret_digest: Hash) -> Hash
     ensures { result
         ≡ sha256 (name.now ++ (0x0A ∷ 0xFF ∷ codes "tlog-demo-hmac-sha256") ++ secret_digest) }
@@ -24,7 +24,7 @@ fn key_digest(name: &str, secret_digest: Hash) -> Hash
     )
 }
 
-// The identifier of the key with this name and secret.
+// Returns the identifier of the key with this name and secret.
 fn id_of(name: &str, secret: &[u8]) -> u32
     ensures { result ≡ spec.demo_id name.now secret.now }
 {
@@ -32,7 +32,7 @@ fn id_of(name: &str, secret: &[u8]) -> u32
     first_four(key_digest(name, secret_digest))
 }
 
-/// A key that signs and verifies with one secret, for demonstrations alone.
+/// A key that signs and verifies with one secret, for demonstrations only.
 #[derive(Drop)]
 pub struct DemoKey<A: Allocator> {
     name: String<A>,
@@ -51,7 +51,7 @@ impl<A: Allocator> Model for DemoKey<A> {
     ghost invariant = { λ k. k.id ≡ demo_id (string_bytes k.name) (vec_items k.secret) };
 }
 
-/// The demonstration key of this name and secret. A name that is no key's name is `BadName(0)`.
+/// Returns the demonstration key with this name and secret. It fails with `BadName(0)` if the name is no key's name.
 pub fn demo_key<A: Allocator + Copy>(
     alloc: A,
     name: &str,

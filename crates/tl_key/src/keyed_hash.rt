@@ -5,7 +5,7 @@ ghost use Rattle.tl_key.specs.Hmac as spec;
 
 use tl_hash::{Hash, Sha256Tree, TreeHash};
 
-// These bytes, filled with zeros to a block.
+// Returns these bytes, filled up with zeros to a block.
 fn filled(bytes: &[u8]) -> [u8; 64]
     requires { length bytes.now ≤ 64 }
     ensures { result ≡ bytes.now ++ replicate (64 - length bytes.now) 0 }
@@ -15,7 +15,7 @@ fn filled(bytes: &[u8]) -> [u8; 64]
     block
 }
 
-// The secret, or its digest where it is longer than a block, filled with zeros to a block.
+// Returns the secret, or its digest if it is longer than a block, filled up with zeros to a block.
 fn block_of(secret: &[u8]) -> [u8; 64]
     ensures block { result ≡ spec.secret_block secret.now }
     ensures length { length result ≡ 64 }
@@ -27,7 +27,7 @@ fn block_of(secret: &[u8]) -> [u8; 64]
     }
 }
 
-// The block of the secret, each byte combined with the pad.
+// Returns the block of the secret, with each byte combined with the pad by exclusive or.
 fn padded(secret: &[u8], pad: u8) -> [u8; 64]
     ensures { result ≡ spec.padded_secret secret.now pad }
 {
@@ -38,7 +38,8 @@ fn padded(secret: &[u8], pad: u8) -> [u8; 64]
     block
 }
 
-/// HMAC with SHA-256 of a message under a secret (RFC 2104, with a block of 64 bytes). It takes no memory.
+/// Returns the HMAC with SHA-256 of a message under a secret (RFC 2104, with a block of 64 bytes). It allocates
+/// nothing.
 pub fn hmac(secret: &[u8], message: &[u8]) -> Hash
     ensures { result ≡ spec.hmac secret.now message.now }
 {

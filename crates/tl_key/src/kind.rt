@@ -1,14 +1,14 @@
-//! The types of Ed25519 keys that notes know.
+//! The types of Ed25519 keys of notes.
 
 ghost use Rattle.std.specs.Prelude.{ℕ};
 ghost use Rattle.tl_key.specs.NoteKey.{note_kind, cosignature_kind};
 
-/// A type of Ed25519 keys (C2SP signed-note, "Signature types"). It stands as a type parameter of the keys, so that one
-/// of another type can't be handed in.
+/// A type of Ed25519 keys (C2SP signed-note, "Signature types"). It is a type parameter of the keys, so that a key of
+/// another type can't be passed.
 pub trait KeyKind: Send + Sync + Drop {
     ghost KIND: { ℕ };
 
-    /// The byte that stands for the type, before the key in its text and in its identifier.
+    /// The byte of the type, before the key in its text and in its identifier.
     const KIND: u8;
 }
 
@@ -22,7 +22,7 @@ impl KeyKind for Note {
     const KIND: u8 = 0x01;
 }
 
-/// The type of keys by which witnesses cosign checkpoints (0x04).
+/// The type of keys with which witnesses cosign checkpoints (0x04).
 #[derive(Clone, Copy, Debug)]
 pub struct Cosignature;
 

@@ -9,13 +9,13 @@ use base64::engine::general_purpose::STANDARD;
 use std::alloc::{AllocError, Allocator};
 use tl_note::is_key_name;
 
-// How many bytes a field of base64 has: the type and 32 more.
+// The number of bytes in a field of base64: the type and 32 more.
 const FIELD_BYTES: usize = 33;
 
-// How many digits an identifier has.
+// The number of digits of an identifier.
 const DIGITS: usize = 8;
 
-// What follows a name.
+// The parts after a name.
 #[derive(Drop)]
 struct Tail<'t> {
     digits: &'t [u8],
@@ -30,7 +30,7 @@ pub(crate) struct Parts<'t> {
     pub(crate) bytes: [u8; 33],
 }
 
-// The 33 bytes that a text is base64 of. No memory is asked for.
+// Decodes the 33 bytes of a field of base64. It allocates nothing.
 fn read_field(field: &[u8]) -> Option<[u8; 33]>
     ensures { MatchOption result (IsNoField field.now) (λ bytes. IsField field.now bytes) }
 {
@@ -44,7 +44,7 @@ fn read_field(field: &[u8]) -> Option<[u8; 33]>
     Some(bytes)
 }
 
-// The digits and the bytes that follow a name and a plus sign.
+// Reads the digits and the bytes that follow a name and a plus sign.
 fn read_tail(rest: &[u8]) -> Option<Tail<'_>>
     ensures { MatchOption result (IsNoTail rest.now)
         (λ tail. IsTail rest.now tail.digits.now tail.bytes) }
@@ -64,7 +64,7 @@ fn read_tail(rest: &[u8]) -> Option<Tail<'_>>
     })
 }
 
-// The parts of a key's text. No memory is asked for.
+// Reads the parts of a key's text. It allocates nothing.
 pub(crate) fn read_parts(text: &str) -> Option<Parts<'_>>
     ensures { MatchOption result (HasNoParts text.now)
         (λ parts. HasParts text.now parts.name.now parts.digits.now parts.bytes) }
@@ -85,7 +85,7 @@ pub(crate) fn read_parts(text: &str) -> Option<Parts<'_>>
     })
 }
 
-// The 32 bytes after the type.
+// Returns the 32 bytes after the type.
 pub(crate) fn after_kind(bytes: &[u8; 33]) -> [u8; 32]
     ensures { result ≡ drop 1 bytes.now }
 {
@@ -94,7 +94,7 @@ pub(crate) fn after_kind(bytes: &[u8; 33]) -> [u8; 32]
     rest
 }
 
-// The type and the 32 bytes after it.
+// Returns the type and the 32 bytes after it.
 fn with_kind(kind: u8, rest: &[u8; 32]) -> [u8; 33]
     ensures bytes { result ≡ kind ∷ rest.now }
     ensures fit { Are33Bytes result }
@@ -104,7 +104,7 @@ fn with_kind(kind: u8, rest: &[u8; 32]) -> [u8; 33]
     bytes
 }
 
-// Puts behind a name what follows it in a key's text.
+// Appends what follows the name in a key's text.
 pub(crate) fn push_tail<A: Allocator + Copy>(
     alloc: A,
     text: &mut String<A>,
@@ -123,7 +123,7 @@ pub(crate) fn push_tail<A: Allocator + Copy>(
     STANDARD.encode_string(&bytes, text)
 }
 
-// Puts the digits of an identifier behind a text.
+// Appends the digits of an identifier.
 fn push_digits<A: Allocator + Copy>(
     alloc: A,
     text: &mut String<A>,

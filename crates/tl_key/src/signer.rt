@@ -1,4 +1,4 @@
-//! Signers of notes by Ed25519: seeds and their texts.
+//! Signer's keys of Ed25519, and their texts.
 
 ghost use Rattle.std.specs.Prelude.{◌≡◌, IfOk, MatchOption, string_bytes};
 ghost use Rattle.tl_ed25519.specs.Eddsa.{public_key};
@@ -26,10 +26,10 @@ pub struct SignerKey<K: KeyKind, A: Allocator> {
     kind: PhantomData<K>,
 }
 
-/// The key of who signs notes.
+/// A key that signs notes.
 pub type NoteSigner<A> = SignerKey<Note, A>;
 
-/// The key of who cosigns.
+/// A key that cosigns checkpoints.
 pub type CosignerSigner<A> = SignerKey<Cosignature, A>;
 
 impl<K: KeyKind, A: Allocator> Model for SignerKey<K, A> {
@@ -45,8 +45,8 @@ impl<K: KeyKind, A: Allocator> Model for SignerKey<K, A> {
 }
 
 impl<K: KeyKind, A: Allocator> SignerKey<K, A> {
-    /// The key of this name and seed, 32 bytes that are to be random and known to no one else. It is `BadName` where
-    /// the name is no key's name.
+    /// Returns the key with this name and seed, 32 bytes that must be random and known to no one else. It fails with
+    /// `BadName` if the name is no key's name.
     pub fn new(alloc: A, name: &str, seed: &[u8; 32]) -> Result<SignerKey<K, A>, KeyFault>
         ensures { MakesSigner (record { name = name.now; kind = K.KIND; seed = seed.now }) result }
     {
@@ -58,7 +58,7 @@ impl<K: KeyKind, A: Allocator> SignerKey<K, A> {
         Ok(SignerKey::made(alloc, name, secret, id)?)
     }
 
-    /// The key of who verifies what this one signs. It fails only where a request for memory is refused.
+    /// Returns the verifier's key for this signer's key. It fails only if allocation fails.
     pub fn verifier<B: Allocator>(&self, alloc: B) -> Result<VerifierKey<K, B>, AllocError>
         ensures { IfOk result (λ k. k ≡ public_of self.now) }
     {
@@ -66,7 +66,7 @@ impl<K: KeyKind, A: Allocator> SignerKey<K, A> {
         VerifierKey::made(alloc, self.name.as_str(), key, self.id)
     }
 
-    // The key whose identifier is known.
+    // Returns the key with this identifier, which is its own.
     fn made(alloc: A, name: &str, secret: SecretKey, id: u32) -> Result<SignerKey<K, A>, AllocError>
         requires { IsKept name.now K.KIND (public_key secret) id }
         ensures { IfOk result (λ k. k ≡ record { name = name.now; kind = K.KIND; seed = secret }) }
@@ -102,7 +102,7 @@ impl<K: KeyKind, A: Allocator + Send + Sync> Signer for SignerKey<K, A> {
     }
 }
 
-// What a text of a signer's key has.
+// The parts of the text of a signer's key.
 #[derive(Drop)]
 struct Found<'t> {
     name: &'t str,
@@ -110,7 +110,7 @@ struct Found<'t> {
     id: u32,
 }
 
-// Reads the text of a signer's key of this type. No memory is asked for.
+// Reads the text of a signer's key of this type. It allocates nothing.
 fn find(kind: u8, text: &str) -> Option<Found<'_>>
     ensures { MatchOption result (IsNoSignerText kind text.now) (λ found. IsSignerText kind text.now
         (record { name = found.name.now; kind = kind; seed = found.secret })
@@ -137,8 +137,8 @@ fn find(kind: u8, text: &str) -> Option<Found<'_>>
     })
 }
 
-/// The signer's key that a text is of, as `write_signer_key` writes it, with no newline. Only a key of the type asked
-/// for is read. No memory is asked for before the text is known to be right.
+/// Reads the text of a signer's key, as `write_signer_key` writes it, without a newline. It takes only a key of the
+/// type asked for, and otherwise fails with `Malformed`. It allocates only if the text is right.
 pub fn read_signer_key<K: KeyKind, A: Allocator>(
     alloc: A,
     text: &str,
@@ -151,8 +151,8 @@ pub fn read_signer_key<K: KeyKind, A: Allocator>(
     Ok(SignerKey::made(alloc, found.name, found.secret, found.id)?)
 }
 
-/// The text of a signer's key: `PRIVATE+KEY+<name>+<identifier>+<base64 of the type and the seed>`. It is read again,
-/// and who has it can sign. It fails only where a request for memory is refused.
+/// Returns the text of a signer's key: `PRIVATE+KEY+<name>+<identifier>+<base64 of the type and the seed>`. It is
+/// read back by `read_signer_key`, and whoever has it can sign. It fails only if allocation fails.
 pub fn write_signer_key<K: KeyKind, B: Allocator, A: Allocator + Copy>(
     alloc: A,
     key: &SignerKey<K, B>,

@@ -1,4 +1,4 @@
-//! Verifiers of notes by Ed25519: public keys and their texts.
+//! Verifier's keys of Ed25519, and their texts.
 
 ghost use Rattle.std.specs.Prelude.{◌≡◌, IfOk, IsTrue, MatchOption, string_bytes};
 ghost use Rattle.tl_ed25519.specs.Eddsa.{is_valid_public_key};
@@ -24,10 +24,10 @@ pub struct VerifierKey<K: KeyKind, A: Allocator> {
     kind: PhantomData<K>,
 }
 
-/// The key of who verifies notes.
+/// A key that verifies notes.
 pub type NoteVerifier<A> = VerifierKey<Note, A>;
 
-/// The key of who verifies cosignatures.
+/// A key that verifies cosignatures.
 pub type CosignerVerifier<A> = VerifierKey<Cosignature, A>;
 
 impl<K: KeyKind, A: Allocator> Model for VerifierKey<K, A> {
@@ -42,8 +42,8 @@ impl<K: KeyKind, A: Allocator> Model for VerifierKey<K, A> {
 }
 
 impl<K: KeyKind, A: Allocator> VerifierKey<K, A> {
-    /// The key of this name and public key, of 32 bytes. The name is looked at first: `BadName` where it is no key's
-    /// name, then `Unsound` where the public key isn't fit for use (`tl_ed25519::is_valid_public_key`).
+    /// Returns the key with this name and public key, of 32 bytes. It fails with `BadName` if the name is no key's
+    /// name, and else with `Unsound` if the public key isn't fit for use (`tl_ed25519::is_valid_public_key`).
     pub fn new(alloc: A, name: &str, key: &[u8; 32]) -> Result<VerifierKey<K, A>, KeyFault>
         ensures { MakesVerifier (record { name = name.now; kind = K.KIND; key = key.now }) result }
     {
@@ -57,14 +57,14 @@ impl<K: KeyKind, A: Allocator> VerifierKey<K, A> {
         Ok(VerifierKey::made(alloc, name, *key, id)?)
     }
 
-    /// The 32 bytes of the public key.
+    /// Returns the 32 bytes of the public key.
     pub fn public_key(&self) -> &[u8; 32]
         ensures { result.now ≡ self.now.key }
     {
         &self.key
     }
 
-    // The key whose identifier is known.
+    // Returns the key with this identifier, which is its own.
     pub(crate) fn made(
         alloc: A,
         name: &str,
@@ -83,7 +83,7 @@ impl<K: KeyKind, A: Allocator> VerifierKey<K, A> {
     }
 }
 
-// Whether these bytes are 64 that stand as a signature of the message.
+// Reports whether these are 64 bytes, and a valid signature of the message.
 fn is_valid(key: &[u8; 32], message: &[u8], signature: &[u8]) -> bool
     ensures { result ≡ is_valid key.now message.now signature.now }
 {
@@ -113,7 +113,7 @@ impl<K: KeyKind, A: Allocator + Send + Sync> Verifier for VerifierKey<K, A> {
     }
 }
 
-// What a text of a verifier's key has.
+// The parts of the text of a verifier's key.
 #[derive(Drop)]
 struct Found<'t> {
     name: &'t str,
@@ -121,7 +121,7 @@ struct Found<'t> {
     id: u32,
 }
 
-// Reads the text of a verifier's key of this type. No memory is asked for.
+// Reads the text of a verifier's key of this type. It allocates nothing.
 fn find(kind: u8, text: &str) -> Option<Found<'_>>
     ensures { MatchOption result (IsNoVerifierText kind text.now) (λ found. IsVerifierText
         kind text.now (record { name = found.name.now; kind = kind; key = found.key })
@@ -148,9 +148,9 @@ fn find(kind: u8, text: &str) -> Option<Found<'_>>
     })
 }
 
-/// The verifier's key that a text is of, as `write_verifier_key` writes it, with no newline (C2SP signed-note,
-/// "Verifier keys"). Only a key of the type asked for is read, and only one fit for use. No memory is asked for before
-/// the text is known to be right.
+/// Reads the text of a verifier's key, as `write_verifier_key` writes it, without a newline (C2SP signed-note,
+/// "Verifier keys"). It takes only a key of the type asked for that is fit for use, and otherwise fails with
+/// `Malformed`. It allocates only if the text is right.
 pub fn read_verifier_key<K: KeyKind, A: Allocator>(
     alloc: A,
     text: &str,
@@ -163,8 +163,8 @@ pub fn read_verifier_key<K: KeyKind, A: Allocator>(
     Ok(VerifierKey::made(alloc, found.name, found.key, found.id)?)
 }
 
-/// The text of a verifier's key: `<name>+<identifier>+<base64 of the type and the public key>`. It is read again where
-/// the key is fit for use. It fails only where a request for memory is refused.
+/// Returns the text of a verifier's key: `<name>+<identifier>+<base64 of the type and the public key>`. It is read
+/// back by `read_verifier_key` if the key is fit for use. It fails only if allocation fails.
 pub fn write_verifier_key<K: KeyKind, B: Allocator, A: Allocator + Copy>(
     alloc: A,
     key: &VerifierKey<K, B>,

@@ -1,4 +1,4 @@
-//! Digests of four messages together.
+//! The digests of four messages together.
 
 ghost use Rattle.std.specs.Prelude.{◌≡◌, ◌≢◌, ℕ, ◌+◌, ◌*◌, ◌/◌, ◌<◌, ◌≤◌, List, [], ◌∷◌, ◌++◌, length, take, drop, slice_index, slice_index_or};
 ghost use Rattle.sha2.specs.Sha256.{compress, digest_bytes, initial_hash_256, padded_message, sha256, word_at};
@@ -8,7 +8,7 @@ use crate::block::tagged_block;
 use crate::quad::compress4;
 use std::simd::u32x4;
 
-// The word that four bytes of a block are, the first byte the highest.
+// Returns the word that bytes `at` to `at + 3` of a block are, the highest byte first.
 fn word_from(block: &[u8; 64], at: usize) -> u32
     requires { at + 4 ≤ 64 }
     ensures { result ≡ word_at block.now at }
@@ -16,7 +16,7 @@ fn word_from(block: &[u8; 64], at: usize) -> u32
     u32::from_be_bytes([block[at], block[at + 1], block[at + 2], block[at + 3]])
 }
 
-// The vector that has word `k` of each block in its lane.
+// Returns the vector of word `k` of each block.
 #[inline(always)]
 fn gather(blocks: &[[u8; 64]; 4], k: usize) -> u32x4
     requires { k < 16 }
@@ -31,7 +31,7 @@ fn gather(blocks: &[[u8; 64]; 4], k: usize) -> u32x4
     ])
 }
 
-// Takes a block of each message in.
+// Updates the hash values with a block of each message.
 #[inline(always)]
 fn take_in(state: &mut [u32x4; 8], blocks: &[[u8; 64]; 4])
     ensures { (j : ℕ)
@@ -44,7 +44,7 @@ fn take_in(state: &mut [u32x4; 8], blocks: &[[u8; 64]; 4])
     compress4(state, words);
 }
 
-// The hash values before any block (5.3.3).
+// Returns four times the initial hash value (FIPS 180-4, section 5.3.3).
 fn start() -> [u32x4; 8]
     ensures { (j : ℕ) → j < 4 → lane j result ≡ initial_hash_256 }
 {
@@ -60,7 +60,7 @@ fn start() -> [u32x4; 8]
     ]
 }
 
-// Message `j`'s hash value as bytes.
+// Returns message `j`'s hash value as bytes.
 fn finish(state: &[u32x4; 8], j: usize) -> [u8; 32]
     requires { j < 4 }
     ensures { result ≡ digest_bytes (lane j state.now) 8 }
@@ -73,7 +73,7 @@ fn finish(state: &[u32x4; 8], j: usize) -> [u8; 32]
     digest
 }
 
-// Block `t` of the padded message, or any block where the message has fewer.
+// Returns block `t` of the padded message, or zeros if the message has fewer blocks.
 #[inline(always)]
 fn block_or_any(tag: u8, rest: &[u8], t: usize) -> [u8; 64]
     ensures { t ≤ (length rest.now + 9) / 64
@@ -85,7 +85,7 @@ fn block_or_any(tag: u8, rest: &[u8], t: usize) -> [u8; 64]
     [0u8; 64]
 }
 
-// Keeps message `j`'s digest once its last block was taken in.
+// Keeps message `j`'s digest, if its last block has just been hashed.
 #[inline(always)]
 fn keep(digest: &mut [u8; 32], state: &[u32x4; 8], j: usize, t: usize, last: usize)
     requires { j < 4 }
@@ -97,8 +97,8 @@ fn keep(digest: &mut [u8; 32], state: &[u32x4; 8], j: usize, t: usize, last: usi
     }
 }
 
-// The work of both public functions. It is inlined into each: where the lengths are known, as for pairs of hashes, the
-// compiler then knows how many blocks there are and where the padding falls.
+// Does the work of both public functions. It is inlined into each. So if the lengths are constants, as for pairs of
+// hashes, the compiler knows the number of blocks and the place of the padding.
 #[inline(always)]
 fn four_digests(tag: u8, a: &[u8], b: &[u8], c: &[u8], d: &[u8]) -> [[u8; 32]; 4]
     ensures a { slice_index_or result 0 [] ≡ sha256 (tag ∷ a.now) }
@@ -132,8 +132,8 @@ fn four_digests(tag: u8, a: &[u8], b: &[u8], c: &[u8], d: &[u8]) -> [[u8; 32]; 4
     [digest_a, digest_b, digest_c, digest_d]
 }
 
-/// The SHA-256 digests (FIPS 180-4, section 6.2) of four messages, in order: each is the byte `tag` and then `a`, `b`,
-/// `c` or `d`. It takes as long as four of the longest.
+/// Returns the SHA-256 digests of four messages, in order (FIPS 180-4, section 6.2). Each is of the byte `tag` and
+/// then `a`, `b`, `c` or `d`. The call takes as long as for four messages of the longest one's length.
 #[inline(never)]
 pub fn digest4(tag: u8, a: &[u8], b: &[u8], c: &[u8], d: &[u8]) -> [[u8; 32]; 4]
     ensures a { slice_index_or result 0 [] ≡ sha256 (tag ∷ a.now) }
@@ -144,7 +144,7 @@ pub fn digest4(tag: u8, a: &[u8], b: &[u8], c: &[u8], d: &[u8]) -> [[u8; 32]; 4]
     four_digests(tag, a, b, c, d)
 }
 
-// A pair of hashes as one run of bytes.
+// Returns two hashes, one after the other.
 #[inline(always)]
 fn joined(left: &[u8; 32], right: &[u8; 32]) -> [u8; 64]
     ensures { result ≡ left.now ++ right.now }
@@ -155,8 +155,8 @@ fn joined(left: &[u8; 32], right: &[u8; 32]) -> [u8; 64]
     both
 }
 
-/// The SHA-256 digests (FIPS 180-4, section 6.2) of four messages of 65 bytes: digest `j` is of the byte `tag`, then
-/// hash `2 * j` and then hash `2 * j + 1`, where the first hash is 0.
+/// Returns the SHA-256 digests of four messages of 65 bytes (FIPS 180-4, section 6.2). Digest `j`, counted from 0, is
+/// of the byte `tag`, hash `2 * j` and hash `2 * j + 1`.
 #[inline(never)]
 pub fn digest_pairs4(tag: u8, hashes: &[[u8; 32]; 8]) -> [[u8; 32]; 4]
     ensures { (j : ℕ) → j < 4 → slice_index_or result j [] ≡ sha256

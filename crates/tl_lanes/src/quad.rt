@@ -1,7 +1,7 @@
-//! One block of each of four messages, taken through SHA-256's rounds (FIPS 180-4, 6.2.2) together.
+//! One block of each of four messages, taken through SHA-256's rounds together (FIPS 180-4, section 6.2.2).
 //!
-//! A vector is a word of each message. What a function says of its vectors it says for each lane `j`, in the terms of
-//! the specification for a single message.
+//! A vector has a word of each message. Contracts speak of each lane `j`, in the terms of the standard for one
+//! message.
 
 ghost use Rattle.std.specs.Prelude.{◌≡◌, ℕ, ◌+◌, ◌*◌, ◌/◌, ◌^◌, ◌<◌, ◌≤◌, List, bit_and, bit_xor, slice_index, slice_set};
 ghost use Rattle.std.specs.Int.{rotate_right, w32};
@@ -71,8 +71,9 @@ fn choose(x: u32x4, y: u32x4, z: u32x4) -> u32x4
     xor(z, and(x, xor(y, z)))
 }
 
-// Maj, by four operations in place of five. A round calls it with `b` and `c` for `y` and `z`, which were `a` and `b`
-// in the round before. So the compiler can reuse that round's `xor(x, y)` as this one's `xor(y, z)`, and three remain.
+// Maj, by four operations instead of five. A round calls it with `b` and `c` for `y` and `z`, which were `a` and `b`
+// in the round before. So the compiler can reuse that round's `xor(x, y)` as this round's `xor(y, z)`, and three
+// remain.
 #[inline(always)]
 fn majority(x: u32x4, y: u32x4, z: u32x4) -> u32x4
     ensures { (j : ℕ)
@@ -81,9 +82,10 @@ fn majority(x: u32x4, y: u32x4, z: u32x4) -> u32x4
     xor(y, and(xor(x, y), xor(y, z)))
 }
 
-// The sigma functions are sums of rotations of `x`. Rotating a partial sum rotates each of its parts, so here each
-// rotation is of all that has been summed. It goes on from where the one before stopped: with distances 9, 11 and 2
-// from the inside out, `x` is rotated by 2, 2 + 11 and 2 + 11 + 9. As measured, this is faster than three rotations.
+// The sigma functions are sums of rotations of `x`. Rotating a partial sum rotates each of its parts, so each
+// rotation here is of the sum so far, and goes on from where the one before it stopped: with distances 9, 11 and 2
+// from the inside out, `x` is rotated by 2, 2 + 11 and 2 + 11 + 9. As measured, this is faster than three rotations
+// of `x`.
 #[inline(always)]
 fn upper_sigma0(x: u32x4) -> u32x4
     ensures { (j : ℕ) → j < 4 → slice_index result j ≡ big_sigma0 (slice_index x j) }
@@ -123,7 +125,7 @@ fn lower_sigma1(x: u32x4) -> u32x4
 
 // ---- the rounds
 
-// The working variables after a round with the constant `k` and the schedule's word.
+// Returns the working variables after a round with the constant `k` and this word of the schedule.
 #[inline(always)]
 fn after_round(vars: [u32x4; 8], k: u32, word: u32x4) -> [u32x4; 8]
     ensures { (j : ℕ) → j < 4 → lane j result ≡ round (lane j vars) k (slice_index word j) }
@@ -135,7 +137,7 @@ fn after_round(vars: [u32x4; 8], k: u32, word: u32x4) -> [u32x4; 8]
     [add(t1, t2), a, b, c, add(d, t1), e, f, g]
 }
 
-// Round `t` of the first sixteen, whose word is word `t` of the block. `ring` holds the block's words.
+// Does round `t`, one of the first sixteen, whose word is word `t` of the block. `ring` holds the block's words.
 #[inline(always)]
 fn early_round(ring: &[u32x4; 16], vars: [u32x4; 8], t: usize) -> [u32x4; 8]
     requires { t < 16 }
@@ -159,8 +161,8 @@ fn four_early(ring: &[u32x4; 16], vars: [u32x4; 8], t: usize) -> [u32x4; 8]
     early_round(ring, third, t + 3)
 }
 
-// Makes a schedule's next word. It is a sum of four of the last sixteen words, of which the oldest is needed for the
-// last time, so the new word is put in its place.
+// Returns the schedule's next word, and puts it into the ring. It is a sum of four of the last sixteen words, and
+// replaces the oldest of them, which isn't needed any more.
 #[inline(always)]
 fn extend(ring: &mut [u32x4; 16], place: usize) -> u32x4
     requires { place < 16 }
@@ -179,7 +181,7 @@ fn extend(ring: &mut [u32x4; 16], place: usize) -> u32x4
     word
 }
 
-// Round `16 * turn + place`, after the first sixteen. It makes the word that it takes.
+// Does round `16 * turn + place`, after the first sixteen, with the next word of the schedule.
 #[inline(always)]
 fn late_round(ring: &mut [u32x4; 16], vars: [u32x4; 8], turn: usize, place: usize) -> [u32x4; 8]
     requires turn { (0 < turn) × (turn ≤ 3) }
@@ -206,9 +208,9 @@ fn four_late(ring: &mut [u32x4; 16], vars: [u32x4; 8], turn: usize, place: usize
     late_round(ring, third, turn, place + 3)
 }
 
-/// Takes one block of each of four messages into its hash value (FIPS 180-4, section 6.2.2). Lane `j` of all vectors is
-/// message `j`'s. `state` has the eight words of the hash values. `words` has the blocks' words: vector `k` the four
-/// that bytes `4 * k` to `4 * k + 3` of the blocks are, the first byte the highest.
+/// Updates four hash values with one block each (FIPS 180-4, section 6.2.2). Lane `j` of each vector belongs to
+/// message `j`. `state` has the eight words of the hash values. `words` has the sixteen words of the blocks: vector
+/// `k` is bytes `4 * k` to `4 * k + 3` of each, the highest byte first.
 #[inline(never)]
 pub fn compress4(state: &mut [u32x4; 8], words: [u32x4; 16])
     ensures { (j : ℕ)
@@ -220,7 +222,7 @@ pub fn compress4(state: &mut [u32x4; 8], words: [u32x4; 16])
     vars = four_early(&ring, vars, 4);
     vars = four_early(&ring, vars, 8);
     vars = four_early(&ring, vars, 12);
-    // A turn goes once round the ring. Its places are numbers in the text, so no `% 16` is left to be computed.
+    // One turn of this loop goes once around the ring. Its places are literals, so no `% 16` is computed at run time.
     'turns: for turn in 1..4 {
         vars = four_late(&mut ring, vars, turn, 0);
         vars = four_late(&mut ring, vars, turn, 4);

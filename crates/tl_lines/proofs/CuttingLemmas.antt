@@ -11,7 +11,7 @@ use Rattle.tl_lines.proofs.PieceLemmas.{IsOther, after_ended, after_plain, lines
 abbrev pub made : ℕ → ℕ → List ℕ → List ℕ → Bool → Uncut
 made number entries begun waiting in_tail = record { number = number; entries = entries; begun = begun; waiting = waiting; in_tail = in_tail }
 
--- what was told before, and what is told then
+-- what was reported before, and what is reported then
 counted_append : (entries : ℕ) (told later : List Told) → counted entries (told ++ later) ≡ counted (counted entries told) later
 counted_append entries [] later = refl
 counted_append entries (Entry line ∷ told) later = counted_append (one_more entries) told later
@@ -90,7 +90,7 @@ line_long number entries begun waiting part rest plain plain_part joined long = 
   entries = refl;
 }
 
--- the end of the input, within a line that is too long, within another, or where a line begins
+-- the end of the input, within a line that is too long, within another, or at the beginning of a line
 pub tail_closed : (number entries : ℕ) → Closes (made number entries [] [] true) (made (one_more number) entries [] [] false) []
 unfolding to_come lines_of lines_after
 tail_closed number entries = record {
@@ -228,7 +228,7 @@ block_read u v none same =
     let from = subst (λ (w : List ℕ). Tells (made u.number u.entries u.begun w u.in_tail) (made u.number u.entries u.begun v.waiting u.in_tail) v.waiting []) (sym none) base in
     subst (λ (x : Uncut). Tells u x v.waiting []) (sym same) from
 
--- nothing is to come where a line begins
+-- nothing is to come at the beginning of a line
 lines_of_nothing : lines_of [] ≡ []
 unfolding lines_of
 lines_of_nothing = refl
@@ -247,7 +247,7 @@ newline_comes u at same =
     let none : to_come u [] ≡ [] = none_to_come u at in
     absurd cc
 
--- where nothing is read there, a line begins then
+-- if nothing is read there, a line begins then
 first_nil : {X : Type 0} (xs ys : List X) → [] ≡ xs ++ ys → xs ≡ []
 first_nil [] ys e = refl
 first_nil (x ∷ xs) ys e = absurd cc
@@ -260,7 +260,7 @@ still_at_line u v told tells at =
       lines = λ more. sym (ap (λ ts. ts ++ to_come v more) none) ∙ sym (tells.first more) ∙ at.lines more;
     }
 
--- each line is told
+-- each line is reported
 pub all_told : (v : Uncut) (read : List ℕ) (told : List Told) → Tells unread v read told → IsAtLine v → told ≡ told_of 0 (lines_of read)
 unfolding to_come
 all_told v read told tells at =
@@ -303,7 +303,7 @@ pub nothing_in : {X : Type 0} (xs : List X) → length xs ≡ 0 → xs ≡ []
 nothing_in [] none = refl
 nothing_in (x ∷ xs) none = absurd (omega arith)
 
--- where nothing is left of a block, and where something is
+-- if nothing is left of a block, and if something is
 pub nothing_waits : {P : Type 0} (start end : ℕ) (block waiting : List ℕ) → take (end - start) (drop start block) ≡ waiting → end ≤ start → 0 < length waiting → P
 nothing_waits start end block waiting is past some = absurd (omega (arith, ap length is, length-take (end - start) (drop start block), past, some))
 

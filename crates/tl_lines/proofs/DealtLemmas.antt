@@ -26,7 +26,7 @@ push_last : {X : Type 0} (xs : List X) (x : X) → slice_get (xs ++ x ∷ []) (l
 push_last [] x = refl
 push_last (y ∷ xs) x = push_last xs x
 
--- where nothing stands in a list
+-- a place with nothing is past the end of the list
 past_none : {X : Type 0} (xs : List X) (i : ℕ) → slice_get xs i ≡ None → length xs ≤ i
 past_none [] i none = omega arith
 past_none (x ∷ xs) zero none = absurd cc
@@ -95,7 +95,7 @@ one_more_empty {X = X} lists more list n so_far pushed empty =
     ap (map vec_items) pushed ∙ (map_push vec_items lists list
     ∙ (ap (λ (l : List X). map vec_items lists ++ l ∷ []) empty ∙ (ap (λ (ls : List (List X)). ls ++ [] ∷ []) so_far ∙ replicate_more n [])))
 
--- where there is no lane
+-- if there is no lane
 pub no_lane : {X : Type 0} (lanes : ℕ) (entries : List X) (lists : List (List X)) → lanes ≡ 0 → lists ≡ replicate lanes [] → Deals lanes entries lists
 no_lane lanes entries lists none made = record {
   count = ap length made ∙ length-replicate lanes [];

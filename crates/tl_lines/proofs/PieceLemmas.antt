@@ -1,4 +1,4 @@
--- The lines of bytes, by where the first newline of them stands.
+-- The lines of bytes, by the place of their first newline.
 use Rattle.std.proofs.Common.{inl, inr, ◌≡◌, ◌≢◌, ℕ, ◌+◌, ◌<◌, ◌≤◌, Bool, true, false, List, [], ◌∷◌, ◌++◌, length, take, drop, get_or, cond, refl, sym, ap, ◌∙◌, arith, eq-eqb, lt-ltb, All, append_assoc, take-append-drop, subst}
 use Rattle.std.specs.Prelude.{◌==◌, ◌⊎◌, Option, Some, None}
 use Rattle.std.specs.List.{onto_first}
@@ -74,7 +74,7 @@ unfolding lines_of
 lines_plain [] plain some = absurd (omega arith)
 lines_plain (x ∷ line) plain some = ap without_empty_last (slice_split_none is_newline (x ∷ line) (tests_false (x ∷ line) plain))
 
--- what is told of a line that isn't too long, and of one that is
+-- what is reported of a line that isn't too long, and of one that is
 pub told_short : (number : ℕ) (line : List ℕ) (lines : List (List ℕ)) → length line ≤ 65535 → told_of number (line ∷ lines) ≡ Entry line ∷ told_of (one_more number) lines
 told_short number line lines short =
     ap (λ (b : Bool). cond b (TooLong number) (Entry line) ∷ told_of (one_more number) lines) (le-ltb 65535 (length line) short)
@@ -83,7 +83,7 @@ told_long : (number : ℕ) (line : List ℕ) (lines : List (List ℕ)) → 65535
 told_long number line lines long =
     ap (λ (b : Bool). cond b (TooLong number) (Entry line) ∷ told_of (one_more number) lines) (lt-ltb 65535 (length line) long)
 
--- what is told of a line that is too long, however it goes on
+-- what is reported of a line that is too long, however it goes on
 pub told_longer : (number : ℕ) (begun part more : List ℕ) → HasNoNewline begun → HasNoNewline part → 65535 < length begun + length part
     → told_of number (lines_of (begun ++ (part ++ more))) ≡ TooLong number ∷ told_of (one_more number) (lines_after (part ++ more))
 unfolding lines_of lines_after
@@ -98,7 +98,7 @@ told_longer number begun part more plain plain_part long =
     ∙ told_long number line (without_empty_last first.1) long_line
     ∙ ap (λ pieces. TooLong number ∷ told_of (one_more number) (without_empty_last (drop 1 pieces))) (sym here)
 
--- where a search found no newline, and where it found one
+-- if a search found no newline, and if it found one
 pub none_found : (bytes : List ℕ) → ((j : ℕ) → 0 ≤ j → j < length bytes → (get_or bytes j 0 == 10) ≡ true → ⊥) → HasNoNewline bytes
 none_found bytes none = All-from_get_or IsOther bytes 0 (λ j lt same. none j (omega arith) lt (eq-eqb (get_or bytes j 0) 10 same))
 
@@ -165,7 +165,7 @@ are_lines (x ∷ rest) =
       | inr other ↦ subst (AreLines (x ∷ rest)) (sym (step_other x rest other)) (more_first x rest (lines_of rest) other (are_lines rest))
     ]
 
--- what a search for a newline tells
+-- what a search for a newline shows
 pub finds : (piece : List ℕ) (found : Option ℕ) → IsFirstByte (is_byte 10) piece found → FindsNewline piece found
 finds piece None first = none_found piece first
 finds piece (Some end) first = found_at piece end first.0.high first.1 first.0.before

@@ -74,7 +74,7 @@ module _ (u v w : Uncut) (f g h : Bool) where
     steady = then.steady ∙ first.steady;
   }
 
--- what was heard while no line was told, and that it has at least as many bytes as there were reads
+-- what was read while no line was reported, and that it has at least as many bytes as there were reads
 pub record HasRead (u v : Uncut) (a b : Option (List ℕ)) (f g : Bool) (reads : ℕ) : Type 0 where
   pub heard : List ℕ
   pub consumed : Consumes a b heard
@@ -228,7 +228,7 @@ module _ (u v w : Uncut) (a b c : Option (List ℕ)) (f g h : Bool) (lines : Lis
     },
   )
 
-  -- memory for one line more is refused
+  -- memory runs out for one more line
   pub entry_short : (line : List ℕ) → TellsOf v w (over b c g h) (Entry line ∷ []) → TellsShort u w (over a c f h) (all_entries (lines ++ line ∷ []))
   entry_short line next =
       let more = entry_more line next in

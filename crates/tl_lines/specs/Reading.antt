@@ -10,7 +10,7 @@ use Rattle.tl_lines.specs.declared.next_line.NextLine.TheVariants as kind
 use Rattle.tl_lines.specs.declared.fault.LineFault.{LineFault}
 use Rattle.tl_lines.specs.declared.fault.LineFault.TheVariants as faults
 
--- what a line that was given tells
+-- what is reported by a line that a call returns
 abbrev pub told : {A : Type 0} → NextLine A → Told
 told (kind.Entry bytes) = Entry (vec_items bytes)
 told (kind.TooLong number) = TooLong number
@@ -35,14 +35,14 @@ pub record ReadEnd (u v : Uncut) (p : Passage) : Type 0 where
   pub same : v ≡ u
   pub steady : IsSteady p
 
--- reading a block, where nothing is left of the last one
+-- reading a block, if nothing is left of the last one
 abbrev pub FillsBlock : Uncut → Uncut → Passage → Result Bool LineFault → Type 0
 FillsBlock u v p (Ok true) = ReadBlock u v p
 FillsBlock u v p (Ok false) = ReadEnd u v p
 FillsBlock u v p (Err faults.Read) = HasFailed p × (v ≡ u)
 FillsBlock u v p (Err fault) = ⊥
 
--- the reader came to its end after these bytes, which lack the newline of their last line; here it is put behind them
+-- the reader gave these bytes without the newline of their last line, and came to its end
 pub record HeardEnd (u v : Uncut) (p : Passage) (heard : Bytes) : Type 0 where
   pub read : Bytes
   pub consumed : Consumes p.old p.new read
@@ -55,26 +55,26 @@ pub record HeardEnd (u v : Uncut) (p : Passage) (heard : Bytes) : Type 0 where
 abbrev pub Hears : Uncut → Uncut → Passage → Bytes → Type 0
 Hears u v p heard = Consumes p.old p.new heard ⊎ HeardEnd u v p heard
 
--- these lines were told of what was held and of what the reader gave
+-- these lines were reported, from what was held and what the reader gave
 pub record TellsOf (u v : Uncut) (p : Passage) (told : List Told) : Type 0 where
   pub heard : Bytes
   pub hears : Hears u v p heard
   pub tells : Tells u v heard told
   pub steady : IsSteady p
 
--- they are all that were to come, and the reader came to its end
+-- these are all lines that were to come, and the reader came to its end
 pub record TellsAll (u v : Uncut) (p : Passage) (told : List Told) : Type 0 where
   pub lines : TellsOf u v p told
   pub ended : IsAtEnd p.new
   pub at_line : IsAtLine v
 
--- these lines were told, and then a read failed: what was read before it is kept
+-- these lines were reported, and then a read failed; what was read before it is kept
 pub record TellsUntil (u v : Uncut) (p : Passage) (told : List Told) : Type 0 where
   pub heard : Bytes
   pub tells : Tells u v heard told
   pub failed : HasFailed p
 
--- these lines were told, and then memory was refused: for the last of them, or for bytes that were held or heard
+-- these lines were reported, and then allocation failed: for the last of them, or for bytes that were held or read
 pub record TellsShort (u v : Uncut) (p : Passage) (told : List Told) : Type 0 where
   pub heard : Bytes
   pub hears : Hears u v p heard
@@ -99,11 +99,11 @@ ReadsLine u v p (Err faults.OutOfMemory) = TellsShort u v p []
 ReadsLine u v p (Err faults.Endless) = TellsNone u v p []
 ReadsLine u v p (Err fault) = ⊥
 
--- the entries that are told of lines none of which is too long
+-- lines that are all reported as entries, since none is too long
 abbrev pub all_entries : List Bytes → List Told
 all_entries lines = map Entry lines
 
--- reading so many lines, none of which is too long
+-- reading this many lines, none of which is too long
 abbrev pub ReadsLines : {A : Type 0} → ℕ → Uncut → Uncut → Passage → Result (Vec (Vec ℕ A) A) LineFault → Type 0
 ReadsLines count u v p (Ok lines) =
     (length (vec_items lines) ≡ count) × TellsOf u v p (all_entries (map vec_items (vec_items lines)))
@@ -114,7 +114,7 @@ ReadsLines count u v p (Err faults.Read) = (lines : List Bytes) × (length lines
 ReadsLines count u v p (Err faults.OutOfMemory) = (lines : List Bytes) × (length lines ≤ count) × (0 < count) × TellsShort u v p (all_entries lines)
 ReadsLines count u v p (Err faults.Endless) = (lines : List Bytes) × (length lines < count) × TellsNone u v p (all_entries lines)
 
--- reading the next lines, at most so many and fewer only where the input ended, none of which is too long
+-- reading the next lines: this many, or fewer if the input ended, none of which is too long
 abbrev pub ReadsMost : {A : Type 0} → ℕ → Uncut → Uncut → Passage → Result (Vec (Vec ℕ A) A) LineFault → Type 0
 ReadsMost count u v p (Ok lines) =
     (length (vec_items lines) ≤ count) × TellsOf u v p (all_entries (map vec_items (vec_items lines)))

@@ -5,7 +5,7 @@ ghost use Rattle.tl_lines.specs.Dealt.{Deals};
 
 use std::alloc::{AllocError, Allocator};
 
-// So many lists without an entry.
+// Returns this many empty lists.
 fn empty_lists<A: Allocator + Copy>(
     alloc: A,
     lanes: usize,
@@ -20,8 +20,8 @@ fn empty_lists<A: Allocator + Copy>(
     Ok(lists)
 }
 
-/// Deals entries out to so many lanes in turn: the first entry is the first one of the first lane, and so on, each once
-/// and in order. Where there is no lane they are dropped. It fails where memory is refused.
+/// Deals entries out to lanes in turn: the first entry goes to the first lane, and so on, each once and in order. If
+/// there is no lane, the entries are dropped. It fails only if allocation fails.
 pub fn deal<A: Allocator + Copy>(
     alloc: A,
     entries: Vec<Vec<u8, A>, A>,

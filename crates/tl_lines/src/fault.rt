@@ -20,7 +20,7 @@ pub enum LineFault {
     /// No line ended in 2^64 - 1 reads.
     #[error("endless line")]
     Endless,
-    /// A growth was refused.
+    /// Allocation failed.
     #[error("out of memory")]
     OutOfMemory,
 }

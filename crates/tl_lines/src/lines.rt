@@ -1,4 +1,4 @@
-//! How an input is cut into lines.
+//! Cutting an input into lines.
 
 ghost use Rattle.std.specs.Prelude.{◌≡◌, ◌≤◌, ◌<◌, [], true, false, length, take, drop, option_map, IfOk};
 ghost use Rattle.std.specs.Option.{option_to_list};
@@ -16,15 +16,16 @@ use std::marker::Model;
 use std::mem;
 use tl_device::Counted;
 
-// How many bytes are read at once.
+// The number of bytes that are read at once.
 const BLOCK: usize = 65_536;
 
-// The most bytes of a line.
+// The longest line, in bytes.
 const LONGEST_LINE: usize = 65_535;
 
-/// What was read of an input and isn't cut into lines yet. The input is cut at each newline; what follows the last one
-/// is a line if it isn't empty. A line of more than 65,535 bytes is told by its number and left out. Contracts see the
-/// number of the line that is read, how many lines before it were not too long, and the bytes that are not cut yet.
+/// What was read of an input and isn't cut into lines yet. The input is cut at each newline, and what follows the
+/// last one is a line if it isn't empty. A line of more than 65,535 bytes is reported by its number and left out.
+/// Contracts see the number of the line that is read, the number of earlier lines that were not too long, and the
+/// bytes that are not cut yet.
 #[derive(Drop)]
 pub struct Lines<A: Allocator> {
     alloc: A,
@@ -32,10 +33,10 @@ pub struct Lines<A: Allocator> {
     start: usize,
     end: usize,
     line: Vec<u8, A>,
-    // How many lines came before the one that is read, and how many of them were not too long.
+    // The number of lines before the one that is read, and how many of them were not too long.
     number: u64,
     entries: u64,
-    // Whether what follows of that line is left out.
+    // Whether the rest of that line is left out.
     skips: bool,
 }
 
@@ -57,7 +58,7 @@ impl<A: Allocator> Model for Lines<A> {
 }
 
 impl<A: Allocator + Copy> Lines<A> {
-    /// Nothing read yet.
+    /// Returns a reader of lines that has read nothing. It fails if allocation fails.
     pub fn new(alloc: A) -> Result<Lines<A>, AllocError>
         ensures { IfOk result (λ lines. lines ≡ unread) }
     {
@@ -73,8 +74,8 @@ impl<A: Allocator + Copy> Lines<A> {
         })
     }
 
-    /// Reads a block, if nothing is left of the last one. Whether the input goes on. After a read that failed all is
-    /// as it was.
+    /// Reads a block, if nothing is left of the last one. Reports whether the input goes on. If the read fails,
+    /// `self` doesn't change.
     pub fn fill<R: Read>(&mut self, reader: &mut Counted<R>) -> Result<bool, LineFault>
         ensures uncut { 0 < length self.old.waiting
             → (result ≡ Ok true) × (self.new ≡ self.old) × (reader.new ≡ reader.old) }
@@ -92,7 +93,7 @@ impl<A: Allocator + Copy> Lines<A> {
         Ok(count > 0)
     }
 
-    // What is left of the block.
+    // Returns what is left of the block.
     fn waiting(&self) -> &[u8]
         ensures value { result.now ≡ self.now.waiting }
         ensures kept { IsKept self.now }
@@ -100,7 +101,7 @@ impl<A: Allocator + Copy> Lines<A> {
         &self.block[self.start..self.end]
     }
 
-    // Leaves out so many bytes of the block.
+    // Skips this many bytes of the block.
     fn pass(&mut self, count: usize)
         requires { count ≤ length self.old.waiting }
         ensures { self.new ≡ record self.old { waiting = drop count self.old.waiting } }
@@ -108,7 +109,7 @@ impl<A: Allocator + Copy> Lines<A> {
         self.start += count;
     }
 
-    // Adds so many bytes of the block to the line. Whether it can have them.
+    // Adds this many bytes of the block to the line. Reports whether they fit.
     fn extend(&mut self, count: usize) -> Result<bool, AllocError>
         requires tail { self.old.in_tail ≡ false }
         requires within { count ≤ length self.old.waiting }
@@ -124,7 +125,7 @@ impl<A: Allocator + Copy> Lines<A> {
         Ok(true)
     }
 
-    // The line that is whole now.
+    // Returns the line, which is whole now.
     fn finish(&mut self) -> NextLine<A>
         ensures line { told result ≡ Entry self.old.begun }
         ensures after { self.new ≡ record {
@@ -140,7 +141,7 @@ impl<A: Allocator + Copy> Lines<A> {
         NextLine::Entry(mem::replace(&mut self.line, Vec::new(self.alloc)))
     }
 
-    // The line that is too long now.
+    // Reports that the line is too long, and begins to leave out the rest of it.
     fn refuse(&mut self) -> NextLine<A>
         ensures line { told result ≡ TooLong self.old.number }
         ensures after { self.new ≡ record self.old { begun = []; in_tail = true } }
@@ -150,7 +151,7 @@ impl<A: Allocator + Copy> Lines<A> {
         NextLine::TooLong(self.number)
     }
 
-    // The end of the line that is too long.
+    // Ends the line that is too long.
     fn end_tail(&mut self)
         ensures { self.new ≡ record self.old {
           number = one_more self.old.number;
@@ -161,7 +162,7 @@ impl<A: Allocator + Copy> Lines<A> {
         self.skips = false;
     }
 
-    // Leaves out what stands in the block of a line that is too long.
+    // Skips what the block has of a line that is too long.
     fn skip(&mut self)
         ensures tells { Tells self.old self.new [] [] }
         ensures tail { self.new.in_tail ≡ true → self.new.waiting ≡ [] }
@@ -182,7 +183,7 @@ impl<A: Allocator + Copy> Lines<A> {
         }
     }
 
-    // The next line of the block, or what stands there of it.
+    // Returns the next line of the block. If the block ends before the line does, it keeps what there is of the line.
     fn cut(&mut self) -> Result<Option<NextLine<A>>, AllocError>
         requires { self.old.in_tail ≡ false }
         ensures { CutsLine self.old self.new result }
@@ -199,8 +200,8 @@ impl<A: Allocator + Copy> Lines<A> {
         Ok(Some(self.finish()))
     }
 
-    /// The next line of the block. None: all of it was cut, and the beginning of a line may be kept. It fails where
-    /// memory is refused, and is then to give the same lines as before.
+    /// Returns the next line of the block, or `None` once all of the block is cut; then the beginning of a line may
+    /// be kept. It fails only if allocation fails, and the same lines are still to come.
     pub fn next_in_block(&mut self) -> Result<Option<NextLine<A>>, AllocError>
         ensures { CutsLine self.old self.new result }
     {
@@ -211,8 +212,8 @@ impl<A: Allocator + Copy> Lines<A> {
         self.cut()
     }
 
-    /// The last line, once the input has ended and all of the block was cut: what follows the last newline, if anything
-    /// does. What comes after it, where the input goes on, begins a line.
+    /// Returns the last line, once the input has ended and all of the block is cut: what follows the last newline, if
+    /// there is anything. If the input goes on later, a new line begins there.
     pub fn last(&mut self) -> Option<NextLine<A>>
         ensures uncut { 0 < length self.old.waiting
             → (option_map told result ≡ None) × (self.new ≡ self.old) }
@@ -232,7 +233,8 @@ impl<A: Allocator + Copy> Lines<A> {
         Some(self.finish())
     }
 
-    /// The next line; none at the end of the input. After a fault the lines that were read are still to come.
+    /// Returns the next line, or `None` at the end of the input. After a fault the lines that were read are still to
+    /// come.
     pub fn next<R: Read>(
         &mut self,
         reader: &mut Counted<R>,
@@ -254,8 +256,8 @@ impl<A: Allocator + Copy> Lines<A> {
         Err(LineFault::Endless)
     }
 
-    /// The next lines, at most so many of them, and fewer only where the input ended. `TooLong`: one is too long. After
-    /// a fault those before it are gone.
+    /// Returns the next lines: `count` of them, or fewer if the input ends. It fails with `TooLong` if one of them is
+    /// too long. After a fault the lines before it are lost.
     pub fn take_most<R: Read>(
         &mut self,
         reader: &mut Counted<R>,
@@ -276,8 +278,8 @@ impl<A: Allocator + Copy> Lines<A> {
         Ok(lines)
     }
 
-    /// The next lines, so many of them. `TooFew`: there are fewer. `TooLong`: one is too long. After a fault those
-    /// before it are gone.
+    /// Returns the next `count` lines. It fails with `TooFew` if the input has fewer, and with `TooLong` if one is
+    /// too long. After a fault the lines before it are lost.
     pub fn take<R: Read>(
         &mut self,
         reader: &mut Counted<R>,
@@ -293,14 +295,15 @@ impl<A: Allocator + Copy> Lines<A> {
         }
     }
 
-    /// How many lines were cut so far that were not too long.
+    /// Returns the number of lines that were cut so far and were not too long.
     pub fn entries(&self) -> u64
         ensures { result ≡ self.now.entries }
     {
         self.entries
     }
 
-    /// Those, and one more for each newline that isn't cut yet and doesn't end a line that was told as too long.
+    /// Returns what `entries` returns, plus one for each newline that isn't cut yet, except the one that ends a line
+    /// already reported as too long.
     pub fn count(&self) -> u64
         ensures { result ≡ entries_seen self.now }
     {

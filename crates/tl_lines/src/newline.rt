@@ -1,18 +1,18 @@
-//! Where a line ends.
+//! Newlines.
 
 ghost use Rattle.std.specs.Prelude.{◌≡◌, ◌==◌, count_by};
 ghost use Rattle.tl_lines.specs.Inner.Cutting.{FindsNewline};
 
 use memchr::memchr;
 
-/// Where the first newline of a piece stands.
+/// Finds the first newline of a piece.
 pub(crate) fn find_newline(piece: &[u8]) -> Option<usize>
     ensures { FindsNewline piece.now result }
 {
     memchr(b'\n', piece)
 }
 
-/// How many newlines a piece has.
+/// Counts the newlines of a piece.
 pub(crate) fn count_newlines(piece: &[u8]) -> u64
     ensures { result ≡ count_by (λ byte. byte == 10) piece.now }
 {

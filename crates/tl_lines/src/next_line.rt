@@ -7,6 +7,6 @@ use std::alloc::Allocator;
 pub enum NextLine<A: Allocator> {
     /// A line, without its newline.
     Entry(Vec<u8, A>),
-    /// The line with this number, counted from 0, has more than 65,535 bytes. What follows of it is left out.
+    /// The line with this number, counted from 0, has more than 65,535 bytes. The rest of it is left out.
     TooLong(u64),
 }

@@ -1,4 +1,4 @@
-//! Laws of every running log, whatever happens. They are about the definitions alone.
+//! Laws of every running log, for every list of events. They are over the definitions.
 
 ghost use Rattle.std.specs.Prelude.{List};
 ghost use Rattle.tl_loop.specs.PublishLoop.{after, step_of};

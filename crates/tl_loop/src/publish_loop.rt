@@ -126,7 +126,7 @@ impl<F: Copy> Clone for Doing<F> {
 
 impl<F: Copy> Copy for Doing<F> {}
 
-/// A running log, as far as it decides what to do next.
+/// The state of a running log, as far as it decides what to do next.
 #[derive(Debug)]
 pub struct PublishLoop<F> {
     /// What it is doing.
@@ -316,7 +316,7 @@ impl<F: Copy> PublishLoop<F> {
         }
     }
 
-    // Whether it waits.
+    // Reports whether it waits.
     fn is_waiting(self) -> bool
         ensures { result ≡ is_waiting self.doing }
     {

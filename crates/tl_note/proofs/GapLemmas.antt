@@ -1,4 +1,4 @@
--- Where a note's text ends: at the last place where two newlines meet.
+-- The end of a note's text: the last place with two newlines in a row.
 use Rattle.std.proofs.Common.{◌≡◌, ℕ, suc, ◌+◌, ◌<◌, ◌≤◌, List, [], ◌∷◌, ◌++◌, length, take, drop, sym, ap, ◌∙◌, append_assoc, arith}
 use Rattle.std.specs.Prelude.{◌≢◌}
 use Rattle.std.specs.List.{flat_map}
@@ -12,7 +12,7 @@ use Rattle.tl_note.proofs.OneNote.{NoGap, last_gap, lines_apart, note_whole}
 abbrev pub LacksGapAt : List ℕ → ℕ → Type 0
 LacksGapAt s i = (rest : List ℕ) → drop i s ≢ 10 ∷ 10 ∷ rest
 
--- bytes where no two newlines meet are no note
+-- bytes without two newlines in a row are no note
 pub no_note : (s : List ℕ) → ((i : ℕ) → i ≤ length s → LacksGapAt s i) → HasNoNote s
 no_note s lacks text lines note =
     let front = note.readable.front in
@@ -26,7 +26,7 @@ no_gap (x ∷ []) lacks = tt
 no_gap (x ∷ y ∷ rest) lacks =
     (λ a b. lacks 0 (omega arith) rest (ap (λ (c : ℕ). c ∷ y ∷ rest) a ∙ ap (λ (c : ℕ). 10 ∷ c ∷ rest) b), no_gap (y ∷ rest) (λ i le. lacks (suc i) (omega arith)))
 
--- the text that ends at the last place where two newlines meet is the only one
+-- the text that ends at the last place with two newlines in a row is the only one
 pub cut_text : (s front rest text : List ℕ) → s ≡ front ++ 10 ∷ 10 ∷ rest → ((i : ℕ) → length front < i → i ≤ length s → LacksGapAt s i) → text ≡ take (length front + 1) s → CutsText s text rest
 cut_text s front rest text whole lacks is =
     let ended : text ≡ front ++ 10 ∷ [] = is ∙ ap (take (length front + 1)) whole ∙ take-append-add front (10 ∷ 10 ∷ rest) 1 in

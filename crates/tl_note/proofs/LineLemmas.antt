@@ -1,4 +1,4 @@
--- Reading lines: where a line and its words end.
+-- Reading lines: the end of a line and of its words.
 use Rattle.std.proofs.Common.{◌≡◌, ℕ, ◌+◌, ◌<◌, ◌≤◌, List, [], ◌∷◌, ◌++◌, length, drop, get_or, refl, sym, ap, subst, ◌∙◌, append_assoc, arith, All, Option, Some, Bor}
 use Rattle.std.specs.Prelude.{MatchOption, IsUtf8}
 use Rattle.std.specs.List.{flat_map}
@@ -71,7 +71,7 @@ pub record HasRead (text : List ℕ) (done : List Signature) (left : List ℕ) :
 continue : (text left : List ℕ) (done lines : List Signature) → HasRead text done left → AreSignatureLines text lines → Continue done lines left
 continue text left done lines has are = after_done done lines left has.each are.each (sym are.whole ∙ sym has.whole)
 
--- the text is no list of 1 to 100 lines where 100 lines are read and some bytes are left
+-- the text is no list of 1 to 100 lines if 100 lines are read and some bytes are left
 too_many_more : (left : List ℕ) (done lines more : List Signature) → length done ≡ 100 → 0 < length left → length lines ≤ 100 → lines ≡ done ++ more → left ≡ flat_map signature_line more → ⊥
 too_many_more left done lines [] full some few joined rest = absurd (omega (arith, some, ap length rest))
 too_many_more left done lines (m ∷ more) full some few joined rest = absurd (omega (arith, full, few, ap length joined, length-append done (m ∷ more)))
@@ -81,7 +81,7 @@ too_many text left done lines has full some are =
     let next = continue text left done lines has are in
     too_many_more left done lines next.more full some are.few next.joined next.rest
 
--- nor where what is left begins with no line
+-- nor if what is left begins with no line
 no_first_more : (left : List ℕ) (more : List Signature) → IsNoFirstLine left → 0 < length left → All IsSignature more → left ≡ flat_map signature_line more → ⊥
 no_first_more left [] none some each rest = absurd (omega (arith, some, ap length rest))
 no_first_more left (m ∷ more) none some each rest = none m (flat_map signature_line more) (record { lawful = All-head IsSignature m more each; whole = rest ∙ open_lines m more })
@@ -91,7 +91,7 @@ no_first text left done lines has none some are =
     let next = continue text left done lines has are in
     no_first_more left next.more none some next.each next.rest
 
--- nor where it is empty
+-- nor if it is empty
 no_lines_more : (left : List ℕ) (lines more : List Signature) → length left ≡ 0 → 0 < length lines → lines ≡ more → left ≡ flat_map signature_line more → ⊥
 no_lines_more left lines [] empty some joined rest = absurd (omega (arith, some, ap length joined))
 no_lines_more left lines (m ∷ more) empty some joined rest = absurd (omega (arith, empty, ap length (rest ∙ open_lines m more), length-append (signature_line m) (flat_map signature_line more), length-append (signature_words m) (10 ∷ [])))

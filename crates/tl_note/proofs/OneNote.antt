@@ -1,4 +1,4 @@
--- Bytes are one note: the text ends at the last place where two newlines meet.
+-- Bytes are one note: the text ends at the last place with two newlines in a row.
 use Rattle.std.proofs.Common.{◌≡◌, ℕ, zero, suc, ◌/◌, ◌%◌, true, false, take, drop, ◌<◌, ◌≤◌, List, [], ◌∷◌, ◌++◌, get_or, refl, sym, ap, subst, ◌∙◌, append_assoc, arith, inl, inr, All}
 use Rattle.std.specs.Prelude.{◌≢◌, ⊤, chars, encode_utf8, encode_utf8_all}
 use Rattle.std.specs.List.{flat_map}
@@ -28,7 +28,7 @@ gap_within [] rest apart = apart.0 refl refl
 gap_within (x ∷ []) rest apart = apart.1.0 refl refl
 gap_within (x ∷ y ∷ front) rest apart = gap_within (y ∷ front) rest apart.1
 
--- where two newlines meet for the last time
+-- the last place with two newlines in a row
 pub last_gap : (f g x y : List ℕ) → NoGap (10 ∷ x) → NoGap (10 ∷ y) → f ++ 10 ∷ 10 ∷ x ≡ g ++ 10 ∷ 10 ∷ y → (f ≡ g) × (x ≡ y)
 last_gap [] [] x y px py e = (refl, cc)
 last_gap [] (b ∷ g) x y px py e = let tail : 10 ∷ x ≡ g ++ 10 ∷ 10 ∷ y = cc in absurd (gap_within g y (subst NoGap tail px))

@@ -146,7 +146,7 @@ module _ (keys : List Key) (text : List ℕ) (lines : List Signature) (n : ℕ) 
   sorts_fault fault (Ok found) judged same = absurd same
   sorts_fault {A = A} fault (Err e) judged same = subst (λ (f : NoteFault). SortsLines {A = A} keys text lines (Err f)) (sym same) (faults A fault judged)
 
--- a request for memory is refused
+-- memory runs out
 pub sorts_refused : {A : Type 0} → (keys : List Key) (text : List ℕ) (lines : List Signature) (r : Result (Vec ℕ A × Vec ℕ A) NoteFault) → IsErrAnd r (λ e. e ≡ OutOfMemory) → NeedsMemory keys lines → SortsLines keys text lines r
 sorts_refused keys text lines (Ok found) same needs = absurd same
 sorts_refused {A = A} keys text lines (Err e) same needs = subst (λ (f : NoteFault). SortsLines {A = A} keys text lines (Err f)) (sym same) needs

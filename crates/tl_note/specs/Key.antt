@@ -3,34 +3,35 @@ use Rattle.std.specs.Prelude.{◌≡◌, ℕ, ◌<◌, ◌≤◌, ◌≢◌, ◌
 use Rattle.std.specs.Char.{is_whitespace}
 use Rattle.tl_hash.specs.Bytes.{Bytes}
 
--- what a verifier knows: its name, its identifier, and which signatures of a message it accepts
+-- a verifier's key: its name, its identifier, and which signatures of a message it accepts
 pub record Key : Type 0 where
   pub name : Bytes
   pub id : ℕ
   pub accepts : Bytes → Bytes → Bool
 
--- what a signer has: which signatures of a message it may give, and which messages it may refuse
+-- a signer's key: its name, its identifier, which signatures of a message it may give, and which messages it may
+-- refuse
 pub record SigningKey : Type 0 where
   pub name : Bytes
   pub id : ℕ
   pub may_give : Bytes → Bytes → Bool
   pub may_refuse : Bytes → Bool
 
--- the key may give no signature of this message: it may refuse it, or give no bytes
+-- the key may give no signature of this message: it may refuse the message, or give no bytes
 abbrev pub MayGiveNone : SigningKey → Bytes → Type 0
 MayGiveNone key message = IsTrue (key.may_refuse message) ⊎ IsTrue (key.may_give message [])
 
--- the key under this name
+-- the key with this name instead of its own
 abbrev pub named_key : Bytes → SigningKey → SigningKey
 named_key name key = record key { name = name }
 
--- a character of a key's name: no white space, no plus, no control
+-- a character of a key's name: no white space, no plus sign, no control character
 pub record IsNameChar (c : ℕ) : Type 0 where
   pub visible : is_whitespace c ≡ false
   pub no_control : 32 ≤ c
   pub no_plus : c ≢ 43
 
--- a key's name isn't empty
+-- a key's name: not empty, and made of such characters
 pub record IsKeyName (name : Bytes) : Type 0 where
   pub some : 0 < length name
   pub text : IsUtf8 name

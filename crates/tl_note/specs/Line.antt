@@ -9,11 +9,11 @@ use Rattle.tl_note.specs.Note.{Signature, IsSignature, signature_field}
 abbrev pub field_signature : Bytes → Bytes
 field_signature field = drop 4 (decoded_bytes_of standard field)
 
--- the signature that a line shows by its name, its identifier and its field
+-- the signature that a line with this name, identifier and field shows
 abbrev pub shown : Bytes → ℕ → Bytes → Signature
 shown name id field = record { name = name; id = id; bytes = field_signature field }
 
--- the line is a lawful one
+-- the line is well formed
 pub record ShowsLine (name : Bytes) (id : ℕ) (field : Bytes) : Type 0 where
   pub lawful : IsSignature (shown name id field)
   pub spelled : field ≡ signature_field (shown name id field)

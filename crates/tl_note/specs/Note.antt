@@ -1,4 +1,4 @@
--- A note: a text and signature lines (C2SP signed-note, "Format").
+-- Notes: a text and signature lines (C2SP signed-note, "Format").
 use Rattle.std.specs.Prelude.{◌≡◌, ℕ, ◌<◌, ◌≤◌, ◌⊎◌, ◌^◌, List, [], ◌∷◌, ◌++◌, length, All, IsUtf8}
 use Rattle.std.specs.List.{flat_map}
 use Rattle.std.specs.Int.{w32, to_be_bytes}
@@ -7,24 +7,24 @@ use Rattle.tl_hash.specs.Bytes.{Bytes}
 use Rattle.tl_text.specs.Text.{line, base64_text}
 use Rattle.tl_note.specs.Key.{IsKeyName}
 
--- what a signature line says: the key's name and identifier, and the signature
+-- a signature: the name and identifier of a key, and the bytes of the signature
 pub record Signature : Type 0 where
   pub name : Bytes
   pub id : ℕ
   pub bytes : Bytes
 
--- what has a line
+-- a signature that a line can have
 pub record IsSignature (s : Signature) : Type 0 where
   pub name : IsKeyName s.name
   pub id : s.id < 2 ^ 32
   pub some : 0 < length s.bytes
   pub bytes : IsBytes s.bytes
 
--- the identifier, four bytes, big-endian, and the signature, in base64
+-- the field of a signature: base64 of the identifier, four bytes, big-endian, and the signature
 abbrev pub signature_field : Signature → Bytes
 signature_field s = base64_text (to_be_bytes w32 s.id ++ s.bytes)
 
--- an em dash (U+2014), the name and the field, with spaces between
+-- the words of a signature line: an em dash (U+2014), the name and the field, with spaces between
 abbrev pub signature_words : Signature → Bytes
 signature_words s = (0xE2 ∷ 0x80 ∷ 0x94 ∷ 32 ∷ []) ++ s.name ++ 32 ∷ signature_field s
 
@@ -32,11 +32,11 @@ signature_words s = (0xE2 ∷ 0x80 ∷ 0x94 ∷ 32 ∷ []) ++ s.name ++ 32 ∷ s
 abbrev pub signature_line : Signature → Bytes
 signature_line s = line (signature_words s)
 
--- a character of a note, by its bytes: no control but newline
+-- a byte of a note: of no control character except newline
 abbrev pub IsNoteByte : ℕ → Type 0
 IsNoteByte byte = (32 ≤ byte) ⊎ (byte ≡ 10)
 
--- a text that can be signed: UTF-8, without control characters but newline, which ends it
+-- a text that can be signed: UTF-8 that ends with a newline and has no other control character
 pub record IsNoteText (text : Bytes) : Type 0 where
   pub utf8 : IsUtf8 text
   pub plain : All IsNoteByte text
@@ -47,7 +47,7 @@ pub record IsNoteText (text : Bytes) : Type 0 where
 abbrev pub note_bytes : Bytes → List Signature → Bytes
 note_bytes text lines = text ++ 10 ∷ flat_map signature_line lines
 
--- bytes are the note of this text and these lines, of 1 to 100
+-- the bytes are the note of this text and these lines, 1 to 100 of them
 pub record Note (bytes text : Bytes) (lines : List Signature) : Type 0 where
   pub readable : IsNoteText text
   pub each : All IsSignature lines
@@ -55,10 +55,10 @@ pub record Note (bytes text : Bytes) (lines : List Signature) : Type 0 where
   pub few : length lines ≤ 100
   pub spelled : bytes ≡ note_bytes text lines
 
--- bytes are a note
+-- the bytes are a note
 abbrev pub IsNote : Bytes → Type 0
 IsNote bytes = (text : Bytes) × (lines : List Signature) × Note bytes text lines
 
--- bytes are no note
+-- the bytes are no note
 abbrev pub HasNoNote : Bytes → Type 0
 HasNoNote bytes = (text : Bytes) (lines : List Signature) → Note bytes text lines → ⊥

@@ -1,19 +1,19 @@
--- Which lines of a note count, and which are wrong (C2SP signed-note, "Verification"; Go's sumdb/note).
+-- The lines of a note that count, and those that are wrong (C2SP signed-note, "Verification"; Go's sumdb/note).
 use Rattle.std.specs.Prelude.{◌≡◌, ℕ, ◌<◌, Bool, ◌&&◌, ◌||◌, not, List, length, map, filter, find, take, count_by, ◌==◌, nat_lt, bytes_eq, slice_get, false, Option, None, Some}
 use Rattle.std.specs.List.{list_any, list_all, enumerate_from}
 use Rattle.tl_hash.specs.Bytes.{Bytes}
 use Rattle.tl_note.specs.Key.{Key}
 use Rattle.tl_note.specs.Note.{Signature}
 
--- the line is of this key
+-- the line has this key
 abbrev pub is_of : Signature → Key → Bool
 is_of line key = bytes_eq line.name key.name && line.id == key.id
 
--- both lines name one key
+-- both lines have one key
 abbrev pub is_same_key : Signature → Signature → Bool
 is_same_key a b = bytes_eq a.name b.name && a.id == b.id
 
--- a line with its place, from 0
+-- a line with its index, from 0
 abbrev pub Placed : Type 0
 Placed = ℕ × Signature
 
@@ -21,11 +21,11 @@ Placed = ℕ × Signature
 abbrev pub is_known : List Key → Placed → Bool
 is_known keys p = list_any (is_of p.1) keys
 
--- an earlier line names the line's key
+-- an earlier line has the line's key
 abbrev pub is_repeated : List Signature → Placed → Bool
 is_repeated lines p = list_any (is_same_key p.1) (take p.0 lines)
 
--- the lines that count: a verifier has the key, and no earlier line names it
+-- the lines that count: a verifier has the key, and no earlier line has it
 abbrev pub counts : List Key → List Signature → Placed → Bool
 counts keys lines p = is_known keys p && not (is_repeated lines p)
 
@@ -54,15 +54,15 @@ is_wrong keys text p = is_ambiguous keys p || not (is_valid keys text p)
 abbrev pub first_wrong : List Key → Bytes → List Signature → Option Placed
 first_wrong keys text lines = find (is_wrong keys text) (counting_lines keys lines)
 
--- the first wrong line is at this place, and is ambiguous or isn't
+-- the first wrong line is at this index, and is ambiguous or isn't
 abbrev pub FindsWrong : List Key → Bytes → List Signature → ℕ → Bool → Type 0
 FindsWrong keys text lines place ambiguous = (p : Placed) × (first_wrong keys text lines ≡ Some p) × (p.0 ≡ place) × (is_ambiguous keys p ≡ ambiguous)
 
--- the places of lines
+-- the indexes of lines
 abbrev pub places : List Placed → List ℕ
 places lines = map (λ p. p.0) lines
 
--- verifying asks for memory: there is a first line, and not two verifiers have its key
+-- verifying allocates: there is a first line, and not two verifiers have its key
 abbrev pub NeedsMemory : List Key → List Signature → Type 0
 NeedsMemory keys lines = (line : Signature) × (slice_get lines 0 ≡ Some line) × (is_ambiguous keys (0, line) ≡ false)
 

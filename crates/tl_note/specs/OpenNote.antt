@@ -1,4 +1,4 @@
--- What opening a note answers (C2SP signed-note, "Verification"; Go's sumdb/note).
+-- What opening a note returns (C2SP signed-note, "Verification"; Go's sumdb/note).
 use Rattle.std.specs.Prelude.{◌≡◌, ℕ, List, [], Result, Ok, Err, Some, true, false, IsTrue, not}
 use Rattle.tl_hash.specs.Bytes.{Bytes}
 use Rattle.tl_note.specs.declared.open.OpenedNote.{OpenedNote}
@@ -8,8 +8,8 @@ use Rattle.tl_note.specs.Key.{Key}
 use Rattle.tl_note.specs.Note.{Signature, Note, IsNote, HasNoNote}
 use Rattle.tl_note.specs.Open.{Placed, Opened, counting_lines, unknown_lines, first_wrong, is_ambiguous, places, FindsWrong, NeedsMemory}
 
--- the note of this text and these lines is opened: it opens, and the places are those of its lines that count and of
--- its unknown lines
+-- the opened note is that of this text and these lines: it opens, and the indexes are those of its lines that count
+-- and of its unknown lines
 pub record Verifying {A : Type 0} (keys : List Key) (text : Bytes) (lines : List Signature) (opened : OpenedNote A) : Type 0 where
   pub same_text : opened.note.text.now ≡ text
   pub same_lines : opened.note.signatures.items ≡ lines
@@ -17,7 +17,7 @@ pub record Verifying {A : Type 0} (keys : List Key) (text : Bytes) (lines : List
   pub verified : opened.verified.items ≡ places (counting_lines keys lines)
   pub unverified : opened.unverified.items ≡ places (unknown_lines keys lines)
 
--- what verifying a note answers, by its text and lines
+-- what verifying a note returns, by its text and lines
 abbrev pub VerifiesNote : {A : Type 0} → List Key → Bytes → List Signature → Result (OpenedNote A) NoteFault → Type 0
 VerifiesNote keys text lines (Ok opened) = Verifying keys text lines opened
 VerifiesNote keys text lines (Err Malformed) = ⊥
@@ -28,11 +28,11 @@ VerifiesNote keys text lines (Err Unverified) = counting_lines keys lines ≡ []
 VerifiesNote keys text lines (Err (Sign place)) = ⊥
 VerifiesNote keys text lines (Err OutOfMemory) = NeedsMemory keys lines
 
--- the bytes are a note, whose first wrong line is at this place, for this reason
+-- the bytes are a note whose first wrong line is at this index, for this reason
 abbrev pub IsWrongAt : Bytes → List Key → ℕ → (Placed → Type 0) → Type 0
 IsWrongAt bytes keys place reason = (text : Bytes) × (lines : List Signature) × (p : Placed) × Note bytes text lines × (first_wrong keys text lines ≡ Some p) × (p.0 ≡ place) × reason p
 
--- the message is the note of what was opened, which opens, and the places are those of its lines that count and of its
+-- the message is the note that was opened; it opens, and the indexes are those of its lines that count and of its
 -- unknown lines
 pub record Opening {A : Type 0} (bytes : Bytes) (keys : List Key) (opened : OpenedNote A) : Type 0 where
   pub note : Note bytes opened.note.text.now opened.note.signatures.items

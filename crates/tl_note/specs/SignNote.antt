@@ -1,4 +1,4 @@
--- What signing a note answers (C2SP signed-note, "Format").
+-- What signing a note returns (C2SP signed-note, "Format").
 use Rattle.std.specs.Prelude.{◌≡◌, ℕ, ◌<◌, ◌≤◌, List, length, take, All, slice_get, Result, Ok, Err, Some, IsTrue, string_bytes, String}
 use Rattle.std.specs.List.{AllZip}
 use Rattle.tl_hash.specs.Bytes.{Bytes}
@@ -7,7 +7,7 @@ use Rattle.tl_note.specs.declared.fault.NoteFault.TheVariants.{Malformed, BadNam
 use Rattle.tl_note.specs.Key.{MayGiveNone, SigningKey, IsKeyName}
 use Rattle.tl_note.specs.Note.{Signature, Note, IsNoteText}
 
--- the line is by this signer: its name and identifier, and a signature that it may give for the message
+-- the line is by this signer: it has its name and identifier, and a signature that it may give for the message
 pub record IsSignedBy (message : Bytes) (key : SigningKey) (line : Signature) : Type 0 where
   pub name : line.name ≡ key.name
   pub id : line.id ≡ key.id
@@ -27,7 +27,7 @@ pub record CanSign (text : Bytes) (keys : List SigningKey) : Type 0 where
 abbrev pub IsFirstBadName : List SigningKey → ℕ → Type 0
 IsFirstBadName keys place = (key : SigningKey) × (slice_get keys place ≡ Some key) × (IsKeyName key.name → ⊥) × All (λ k. IsKeyName k.name) (take place keys)
 
--- the signer at this place may refuse the message, or give no bytes for it
+-- the signer at this index may refuse the message, or give no bytes for it
 abbrev pub MayFail : Bytes → List SigningKey → ℕ → Type 0
 MayFail message keys place = (key : SigningKey) × (slice_get keys place ≡ Some key) × MayGiveNone key message
 

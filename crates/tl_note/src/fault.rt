@@ -1,4 +1,4 @@
-//! Why a note is refused.
+//! Why a note can't be read, opened or signed.
 
 use std::alloc::{AllocError, AllocFailed};
 use thiserror::Error;
@@ -6,7 +6,7 @@ use thiserror::Error;
 /// Why a note can't be read, opened or signed. Lines and signers are counted from 0.
 #[derive(Clone, Copy, Debug, PartialEq, Eq, Error)]
 pub enum NoteFault {
-    /// The bytes are no note. In signing: the text can't be signed, or there is no signer or more than 100.
+    /// The bytes are no note; or, in signing, the text can't be signed, or there are no signers or more than 100.
     #[error("not a note")]
     Malformed,
     /// The name of this signer is no key's name.
@@ -15,16 +15,16 @@ pub enum NoteFault {
     /// Two verifiers have the key of this line.
     #[error("two verifiers have the key of signature line {0}")]
     Ambiguous(usize),
-    /// The verifier that has the key of this line doesn't accept its signature.
+    /// The verifier with the key of this line doesn't accept its signature.
     #[error("signature line {0} is invalid")]
     InvalidSignature(usize),
-    /// No line is of a key that a verifier has.
+    /// No verifier has the key of any line.
     #[error("no signature is of a known key")]
     Unverified,
-    /// This signer refused the text, or gave no bytes.
+    /// This signer refused the text, or gave an empty signature.
     #[error("signer {0} gave no signature")]
     Sign(usize),
-    /// A request for memory was refused.
+    /// Allocation failed.
     #[error("out of memory")]
     OutOfMemory,
 }

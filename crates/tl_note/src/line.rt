@@ -1,4 +1,4 @@
-//! One signature line of a note: a view that borrows it, and its exact reader.
+//! A signature line of a note: a view that borrows it, and its exact reader.
 
 ghost use Rattle.std.specs.Prelude.{◌≡◌, ◌++◌, MatchOption, IfOk, OnOk, ◌<◌, length, string_bytes};
 ghost use Rattle.tl_note.specs.Key.{IsKeyName};
@@ -13,8 +13,8 @@ use std::alloc::{AllocError, Allocator};
 use std::marker::Model;
 use tl_text::{BLOCK_LEN, decode_base64_block, is_base64};
 
-/// A signature line of a note, within the message. A contract sees it as the signature that the line shows: the key's
-/// name, its identifier and the bytes of the signature. Reading alone makes one, so the line is a lawful one.
+/// A signature line of a note, within the message. A contract sees the signature that the line shows: the key's name,
+/// its identifier and the bytes of the signature. Only reading makes a view, so the line is always well formed.
 #[derive(Debug, Drop)]
 pub struct SigView<'m> {
     name: &'m str,
@@ -34,29 +34,29 @@ impl<'m> Model for SigView<'m> {
 }
 
 impl<'m> SigView<'m> {
-    /// The key's name.
+    /// Returns the key's name.
     pub fn name(&self) -> &'m str
         ensures { result.now ≡ self.now.name }
     {
         self.name
     }
 
-    /// The key's identifier.
+    /// Returns the key's identifier.
     pub fn key_id(&self) -> u32
         ensures { result ≡ self.now.id }
     {
         self.key_id
     }
 
-    /// The field after the name: base64 of the identifier, four bytes, big-endian, and the signature.
+    /// Returns the field after the name: base64 of the identifier, four bytes, big-endian, and the signature.
     pub fn base64(&self) -> &'m str
         ensures { result.now ≡ signature_field self.now }
     {
         self.field
     }
 
-    /// The bytes of the signature: what the field holds after the identifier, one byte at least. It fails only where a
-    /// request for memory is refused.
+    /// Returns the bytes of the signature, at least one: what the field has after the identifier. It fails only if
+    /// allocation fails.
     pub fn decode<A: Allocator>(&self, alloc: A) -> Result<Vec<u8, A>, AllocError>
         ensures { IfOk result (λ bytes. bytes.items ≡ self.now.bytes) }
     {
@@ -71,8 +71,8 @@ impl<'m> SigView<'m> {
         Ok(bytes)
     }
 
-    /// Puts the line, with the newline that ends it, behind a text (C2SP signed-note, "Format"). It fails only where a
-    /// request for memory is refused.
+    /// Appends the line, with the newline that ends it, to a text (C2SP signed-note, "Format"). It fails only if
+    /// allocation fails.
     pub fn push_to<A: Allocator>(&self, text: &mut String<A>) -> Result<(), AllocError>
         ensures { OnOk result
             (string_bytes text.new ≡ string_bytes text.old ++ signature_line self.now) }
@@ -109,9 +109,9 @@ impl<'m> SigView<'m> {
     }
 }
 
-/// A signature line, with the newline that ends it: the key's name, its identifier and the bytes of the signature
-/// (C2SP signed-note, "Format"). The line is lawful where the name is a key's name and there is one byte at least. It
-/// fails only where a request for memory is refused.
+/// Returns a signature line, with the newline that ends it, of a key's name, its identifier and the bytes of the
+/// signature (C2SP signed-note, "Format"). The line is well formed if the name is a key's name and there is at least
+/// one byte. It fails only if allocation fails.
 pub fn write_signature_line<A: Allocator + Copy>(
     alloc: A,
     name: &str,
@@ -133,10 +133,11 @@ pub fn write_signature_line<A: Allocator + Copy>(
     Ok(line)
 }
 
-// How many bytes of a field are the key's identifier.
+// The number of bytes of the identifier in a field.
 pub(crate) const KEY_ID_LEN: usize = 4;
 
-/// The identifier in a field, which is strict base64 of it, four bytes, big-endian, and of one byte at least.
+/// Returns the identifier in a field: strict base64 of the identifier, four bytes, big-endian, and of at least one
+/// byte more.
 pub(crate) fn read_key_id(field: &str) -> Option<u32>
     ensures { MatchOption result (IsNoField field.now) (λ id. ShowsField id field.now) }
 {

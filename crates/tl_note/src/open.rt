@@ -14,9 +14,9 @@ use crate::parse::{NoteView, parse_note};
 use crate::verify::{is_known, verify_line};
 use std::alloc::Allocator;
 
-/// An opened note, with the places of its lines, counted from 0 and in order. In `verified` are the lines that count,
-/// each valid: the first of each key that a verifier has. In `unverified` are all lines of keys that no verifier has.
-/// A later line of a known key is in neither.
+/// An opened note. `verified` has the indexes of the lines that count, all valid: the first of each key that a
+/// verifier has. `unverified` has those of all lines whose keys no verifier has. A later line of a known key is in
+/// neither. Indexes are counted from 0, and in order.
 #[derive(Debug, Drop)]
 #[non_exhaustive]
 pub struct OpenedNote<'m, A: Allocator> {
@@ -25,19 +25,19 @@ pub struct OpenedNote<'m, A: Allocator> {
     pub unverified: Vec<usize, A>,
 }
 
-// What a line is found to be.
+// The standing of a line.
 #[derive(Clone, Copy)]
 enum Standing {
     // No verifier has its key.
     Unknown,
-    // A verifier has its key, and an earlier line names it.
+    // A verifier has its key, and an earlier line has the same key.
     Repeated,
     // It counts, and its signature is valid.
     Verified,
 }
 
-/// Reads a note, and verifies it as `verify_note` does. The message is read as a whole first: it is `Malformed` exactly
-/// where it is no note, and the faults of `verify_note` are of a note alone.
+/// Reads a note, and verifies it as `verify_note` does. It is read as a whole first, and fails with `Malformed`
+/// exactly if it is no note. The faults of `verify_note` occur only for a note.
 pub fn open_note<'m, A: Allocator + Copy>(
     alloc: A,
     message: &'m str,
@@ -49,13 +49,13 @@ pub fn open_note<'m, A: Allocator + Copy>(
     verify_note(alloc, note, verifiers)
 }
 
-/// Verifies the signatures of a note that was read (C2SP signed-note, "Verification"). A line counts where a verifier
-/// has its key and no earlier line names that key. The note opens where some line counts, each that counts is of one
-/// verifier, and each of their signatures is valid.
+/// Verifies the signatures of a note that was read (C2SP signed-note, "Verification"). A line counts if a verifier
+/// has its key and no earlier line has it. The note opens if some line counts, and each line that counts has one
+/// verifier, which accepts its signature.
 ///
-/// The first line that counts and is of two verifiers (`Ambiguous`) or isn't valid (`InvalidSignature`) decides.
-/// `Unverified`: no line counts. No memory is asked for where there is no line, or two verifiers have the first line's
-/// key.
+/// The first line that counts and has a fault decides: `Ambiguous` if two verifiers have its key, `InvalidSignature`
+/// if its signature isn't valid. `Unverified`: no line counts. Nothing is allocated if there is no line, or two
+/// verifiers have the first line's key.
 pub fn verify_note<'m, A: Allocator + Copy>(
     alloc: A,
     note: NoteView<'m, A>,
@@ -80,7 +80,7 @@ pub fn verify_note<'m, A: Allocator + Copy>(
     })
 }
 
-// The places of the lines that count, each valid, and of those whose key no verifier has.
+// Returns the indexes of the lines that count, all valid, and of those whose key no verifier has.
 fn sort_lines<A: Allocator + Copy>(
     alloc: A,
     text: &str,
@@ -101,7 +101,7 @@ fn sort_lines<A: Allocator + Copy>(
     Ok((verified, unverified))
 }
 
-// What the line at this place is.
+// Returns the standing of the line at this index.
 fn judge_line<A: Allocator>(
     alloc: A,
     text: &str,
@@ -124,7 +124,7 @@ fn judge_line<A: Allocator>(
     Ok(Standing::Verified)
 }
 
-// Whether an earlier line names the key of the line.
+// Reports whether an earlier line has the line's key.
 fn is_repeated(earlier: &[SigView<'_>], line: &SigView<'_>) -> bool
     ensures { result ≡ list_any (is_same_key line.now) earlier.now }
 {
@@ -134,7 +134,7 @@ fn is_repeated(earlier: &[SigView<'_>], line: &SigView<'_>) -> bool
     }
 }
 
-// Whether both lines name one key.
+// Reports whether both lines have one key.
 fn names_same_key(line: &SigView<'_>, other: &SigView<'_>) -> bool
     ensures { result ≡ is_same_key line.now other.now }
 {

@@ -21,8 +21,8 @@ pub struct NoteView<'m, A: Allocator> {
 }
 
 /// Reads a note: a text that ends with a newline, an empty line, and 1 to 100 signature lines (C2SP signed-note,
-/// "Format"). It is `Malformed` exactly where the message is no note. Memory is asked for the lines of a note alone,
-/// so that it is `OutOfMemory` of a note only. The views borrow the message.
+/// "Format"). It fails with `Malformed` exactly if the message is no note. It allocates only the lines of a note, so
+/// `OutOfMemory` occurs only for a note. The views borrow the message.
 pub fn parse_note<A: Allocator + Copy>(
     alloc: A,
     message: &str,
@@ -42,9 +42,9 @@ pub fn parse_note<A: Allocator + Copy>(
     Ok(NoteView { text, signatures })
 }
 
-/// Reads signature lines alone: at most 100 of them and nothing else, as a witness answers them (C2SP signed-note,
-/// "Format"; C2SP tlog-witness, "add-checkpoint"). It is `Malformed` exactly where the text is something else, and no
-/// memory is asked for where it is empty. The views borrow the text.
+/// Reads signature lines alone: at most 100 of them and nothing else, as a witness returns them (C2SP signed-note,
+/// "Format"; C2SP tlog-witness, "add-checkpoint"). It fails with `Malformed` exactly if the text is something else,
+/// and allocates nothing if it is empty. The views borrow the text.
 pub fn parse_signatures<A: Allocator>(
     alloc: A,
     text: &str,
@@ -61,21 +61,21 @@ pub fn parse_signatures<A: Allocator>(
     Ok(lines)
 }
 
-// Whether a note may have this byte: it is a newline, or of no character below 0x20.
+// Reports whether a note may contain this byte: it is a newline, or at least 0x20.
 fn is_note_byte(byte: u8) -> bool
     ensures { IsTrue result ↔ IsNoteByte byte }
 {
     byte >= 0x20 || byte == b'\n'
 }
 
-/// Whether a text can be signed: it ends with a newline, and has no other character below 0x20.
+/// Reports whether a text can be signed: it ends with a newline, and has no other character below 0x20.
 pub(crate) fn is_note_text(text: &str) -> bool
     ensures { IsTrue result ↔ IsNoteText text.now }
 {
     text.ends_with('\n') && text.bytes().all(|byte| is_note_byte(byte))
 }
 
-// The text, and what follows the empty line: it is cut at the last place where two newlines meet.
+// Returns the text, and what follows the empty line. The message is cut at the last place with two newlines in a row.
 fn cut_text(message: &str) -> Option<(&str, &str)>
     ensures { MatchOption result (HasNoNote message.now)
         (λ parts. CutsText message.now parts.0.now parts.1.now) }
@@ -86,7 +86,7 @@ fn cut_text(message: &str) -> Option<(&str, &str)>
     Some((&message[..front.len() + 1], lines))
 }
 
-// The first signature line of a text, and what follows it.
+// Returns the first signature line of a text, and what follows it.
 fn cut_line(text: &str) -> Option<(SigView<'_>, &str)>
     ensures { MatchOption result (IsNoFirstLine text.now)
         (λ parts. CutsLine text.now parts.0 parts.1.now × IsUtf8 parts.1.now) }
@@ -100,7 +100,7 @@ fn cut_line(text: &str) -> Option<(SigView<'_>, &str)>
     Some((line, rest))
 }
 
-// How many lines a text is, where it is 1 to 100 signature lines and nothing else.
+// Returns the number of lines of a text, or `None` if it isn't 1 to 100 signature lines and nothing else.
 fn count_lines(text: &str) -> Option<usize>
     ensures { MatchOption result (HasNoSignatureLines text.now) (HasSignatureLines text.now) }
 {
@@ -122,7 +122,7 @@ fn count_lines(text: &str) -> Option<usize>
     Some(count)
 }
 
-// The lines of a text that is so many.
+// Returns the lines of a text that has this many.
 fn read_lines<A: Allocator>(
     alloc: A,
     text: &str,

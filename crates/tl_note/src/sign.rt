@@ -11,12 +11,12 @@ use crate::line::write_signature_line;
 use crate::parse::{MOST_LINES, is_note_text};
 use std::alloc::{Allocator, Global};
 
-/// The note of a text, with one signature line for each signer, in order (C2SP signed-note, "Format"). `global` is
-/// what the signers take memory from.
+/// Returns the note of a text, with one signature line for each signer, in order (C2SP signed-note, "Format"). The
+/// signers allocate from `global`.
 ///
-/// The faults are checked in this order. `Malformed`: the text can't be signed, or there is no signer or more than
-/// 100. `BadName(i)`: signer i is the first whose name is no key's name. `Sign(i)`: signer i refused the text, or gave
-/// no bytes.
+/// The faults are checked in this order. `Malformed`: the text can't be signed, or there are no signers or more than
+/// 100. `BadName(i)`: signer i is the first whose name is no key's name. `Sign(i)`: signer i refused the text, or
+/// gave an empty signature.
 pub fn sign_note<A: Allocator + Copy>(
     alloc: A,
     global: Global,
@@ -37,8 +37,8 @@ pub fn sign_note<A: Allocator + Copy>(
     Ok(note)
 }
 
-/// The signature of a message by one signer, of one byte at least. It is `Refused` where the signer refuses the message
-/// or gives no bytes.
+/// Returns the signature of a message by one signer, at least one byte. It fails with `Refused` if the signer refuses
+/// the message or gives no bytes.
 pub fn signature_of(
     global: Global,
     signer: &dyn Signer,
@@ -60,23 +60,23 @@ pub fn signature_of(
     Ok(signature)
 }
 
-// The name of a signer's key. A call of an object's method stands in a function of its own, so that its clause speaks
-// of the box.
+// Returns the name of a signer's key. This call of an object's method is a function of its own, so that its clause
+// speaks of the box.
 fn name_of(signer: &Box<dyn Signer>) -> &str
     ensures { result.now ≡ (signing_key signer.now).name }
 {
     signer.name()
 }
 
-// The identifier of a signer's key.
+// Returns the identifier of a signer's key.
 fn key_id_of(signer: &Box<dyn Signer>) -> u32
     ensures { result ≡ (signing_key signer.now).id }
 {
     signer.key_id()
 }
 
-/// The place of the first signer whose name is no key's name (C2SP signed-note, "Format"), and None where each name is
-/// one: whether a note can be signed by them, before there is a text.
+/// Returns the index of the first signer whose name is no key's name (C2SP signed-note, "Format"), or `None` if there
+/// is no such signer. So a caller can check signers before there is a text.
 pub fn first_bad_name(signers: &[Box<dyn Signer>]) -> Option<usize>
     ensures { MatchOption result
         (All (λ k. IsKeyName k.name) (map (λ signer. signing_key signer) signers.now))
@@ -108,7 +108,7 @@ fn push_lines<A: Allocator + Copy>(
     Ok(())
 }
 
-// Adds the line of the signer at this place.
+// Adds the line of the signer at this index.
 fn push_line<A: Allocator + Copy>(
     alloc: A,
     global: Global,
@@ -132,7 +132,7 @@ fn push_line<A: Allocator + Copy>(
     Ok(())
 }
 
-// The signature of the signer at this place.
+// Returns the signature of the signer at this index.
 fn sign_text(
     global: Global,
     text: &str,

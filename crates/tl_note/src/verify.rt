@@ -1,4 +1,4 @@
-//! What verifiers say of one signature line.
+//! Verifying one signature line.
 
 ghost use Rattle.std.specs.Prelude.{◌≡◌, ◌≤◌, length, map, filter, count_by};
 ghost use Rattle.std.specs.List.{list_any, list_all};
@@ -10,21 +10,21 @@ use crate::keys::Verifier;
 use crate::line::SigView;
 use std::alloc::Allocator;
 
-// Whether the line is of the verifier's key.
+// Reports whether the line has the verifier's key.
 fn has_key(verifier: &Box<dyn Verifier>, line: &SigView<'_>) -> bool
     ensures { result ≡ is_of line.now (key verifier.now) }
 {
     line.name() == verifier.name() && line.key_id() == verifier.key_id()
 }
 
-// Whether the verifier accepts the signature of the message.
+// Reports whether the verifier accepts the signature of the message.
 fn accepts(verifier: &Box<dyn Verifier>, message: &[u8], signature: &[u8]) -> bool
     ensures { result ≡ (key verifier.now).accepts message.now signature.now }
 {
     verifier.verify(message, signature)
 }
 
-/// Whether a verifier has the line's key.
+/// Reports whether a verifier has the line's key.
 pub(crate) fn is_known(verifiers: &[Box<dyn Verifier>], line: &SigView<'_>) -> bool
     ensures { result ≡ list_any (is_of line.now) (map (λ verifier. key verifier) verifiers.now) }
 {
@@ -34,7 +34,7 @@ pub(crate) fn is_known(verifiers: &[Box<dyn Verifier>], line: &SigView<'_>) -> b
     }
 }
 
-// How many verifiers have the line's key.
+// Returns the number of verifiers that have the line's key.
 fn count_known(verifiers: &[Box<dyn Verifier>], line: &SigView<'_>) -> usize
     ensures count { result
         ≡ count_by (is_of line.now) (map (λ verifier. key verifier) verifiers.now) }
@@ -53,7 +53,7 @@ fn count_known(verifiers: &[Box<dyn Verifier>], line: &SigView<'_>) -> usize
     }
 }
 
-// Whether each verifier that has the line's key accepts the signature of the message.
+// Reports whether all verifiers with the line's key accept the signature of the message.
 fn is_accepted(
     verifiers: &[Box<dyn Verifier>],
     line: &SigView<'_>,
@@ -74,7 +74,7 @@ fn is_accepted(
     }
 }
 
-/// Verifies the signature of the line at this place.
+/// Verifies the signature of the line at this index.
 pub(crate) fn verify_line<A: Allocator>(
     alloc: A,
     text: &str,

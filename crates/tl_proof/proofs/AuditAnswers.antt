@@ -131,7 +131,7 @@ audits-of H old new steps fork place a b (Err OutOfMemory) accepted differ forks
 pub AreAccepted-ordered : (H : Digest) (old new : List (List ℕ)) (steps : List Step) → AreAccepted H old new steps → length old ≤ length new
 AreAccepted-ordered H old new steps accepted = linked_most H steps (length old) (tree_hash H old) (length new) (tree_hash H new) accepted.0 accepted.1
 
--- one step is accepted where its proof is
+-- one step is accepted if its proof is
 pub AreAccepted-one : (H : Digest) (old new : List (List ℕ)) (proof : List (List ℕ)) (m n : ℕ) → m ≡ length old → n ≡ length new
     → AcceptsConsistency H proof n (tree_hash H new) m (tree_hash H old) ↔ AreAccepted H old new (record { size = n; root = tree_hash H new; proof = proof } ∷ [])
 unfolding Linked EndsWith
@@ -169,7 +169,7 @@ links_fork-one H old new proof m n root fork m_is n_is root_is accepted find =
     subst (λ (z : ℕ). SameOrForks H fork (tree_hash H old) (tree_hash H (take z new)) (fold_inputs H z (length new) proof (tree_hash H old)) (inputs H new)) m_is found_root in
     subst (λ (z : ℕ). LinksFork H fork old new (record { size = z; root = tree_hash H new; proof = proof } ∷ [])) (sym n_is) (links_fork-here H old new proof fork found_size)
 
--- the links lead from the old list to the new one where their steps are accepted
+-- the links lead from the old list to the new one if their steps are accepted
 pub AreAccepted-led : (H : Digest) (old new : List (List ℕ)) (steps : List Step) (m n : ℕ) (root new_root : List ℕ) → m ≡ length old → n ≡ length new → root ≡ tree_hash H old → new_root ≡ tree_hash H new
     → (Linked H m root steps × EndsWith m root steps n new_root) ↔ AreAccepted H old new steps
 AreAccepted-led H old new steps m n root new_root m_is n_is root_is new_is = rw (m_is, n_is, root_is, new_is) (λ a. a, λ a. a)

@@ -15,7 +15,7 @@ use Rattle.tl_proof.proofs.Forks.{SameOrForks-among}
 abbrev pub Lead : (List ℕ → List ℕ) → ℕ → List ℕ → List Step → ℕ → List ℕ → Type 0
 Lead H old old_root steps size root = Linked H old old_root steps × EndsWith old old_root steps size root
 
--- steps that are left lead there exactly where all do
+-- the steps that are left lead there exactly if all do
 abbrev pub LeadOn : (List ℕ → List ℕ) → ℕ → List ℕ → List Step → ℕ → List ℕ → List Step → ℕ → List ℕ → Type 0
 LeadOn H at at_root left old old_root steps size root = Lead H at at_root left size root ↔ Lead H old old_root steps size root
 

@@ -84,7 +84,7 @@ abbrev Meets : (List ℕ → List ℕ) → ℕ → ℕ → Bool → List (List �
 Meets H old new known proof root entries a =
     (a ≡ tree_hash H (take old entries)) ⊎ Collision H (fold_inputs_from H old new known proof root) (inputs H entries)
 
--- where all entries are old, the two roots are one
+-- if all entries are old, the two roots are one
 meets-whole : (H : Digest) (old new : ℕ) (known : Bool) (proof : List (List ℕ)) (root : List ℕ) (entries : List (List ℕ)) (a b : List ℕ)
     → length entries ≡ new → old ≡ new → a ≡ b → b ≡ tree_hash H entries → Meets H old new known proof root entries a
 meets-whole H old new known proof root entries a b len same equal is =

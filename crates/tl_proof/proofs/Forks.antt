@@ -106,7 +106,7 @@ check_walk-right H k old known last others root entries beside below walk s more
           (under.meets parts.1));
     }
 
--- where no hash is left, or all entries are old, the two roots are one
+-- if no hash is left, or all entries are old, the two roots are one
 one_root-none : (H : Digest) (old new : ℕ) (known : Bool) (root : List ℕ) (a b : List ℕ) → roots_from H old new known [] root ≡ Some (a, b) → (a ≡ b) × (old ≡ new)
 unfolding roots_from
 one_root-none H old new known root a b leads =
@@ -175,7 +175,7 @@ check_walk-rest f H k old known proof last root xs beside below walk some is s m
     subst (λ (p : List (List ℕ)). IsCheckWalk H old known p root (map f xs) walk) (sym whole)
     (check_walk-right H k old known last others root (map f xs) beside below walk s_map more less part rest old_is new_is list_is over)
 
--- the walk that a check leads to, where it leads to one
+-- the walk that a check leads to, if it leads to one
 walk_of-roots : (H : Digest) (old : ℕ) (known : Bool) (proof : List (List ℕ)) (root : List ℕ) (entries : List (List ℕ)) (list : List ℕ) (found : Option CheckWalk) (roots : Option (List ℕ × List ℕ))
     → (length proof ≡ 0) ⊎ (old ≡ length entries) → list ≡ tree_hash H entries → roots ≡ roots_from H old (length entries) known proof root
     → found ≡ option_map (λ r. record { old = r.0; new = r.1; list = list; fork = None }) roots
@@ -196,7 +196,7 @@ check_walk-of f H old known proof root xs list found roots reason list_is roots_
     walk_of-roots H old known (reverse proof) root (map f xs) list found roots (whole_reason f old proof xs reason) list_is
     (roots_is ∙ ap (λ (m : ℕ). roots_from H old m known (reverse proof) root) (sym (length-map xs f))) found_is
 
--- where the check leads nowhere below, it leads nowhere
+-- if the check leads nowhere below, it leads nowhere
 pub leads_nowhere-first : {X : Type 0} (f : X → List ℕ) (H : Digest) (k old : ℕ) (known : Bool) (proof : List (List ℕ)) (last root : List ℕ) (xs : List X)
     → length proof ≢ 0 → last ≡ get_or proof (length proof - 1) last → IsSplit k (length xs) → old ≤ k
     → roots_from H old (length (map f (take k xs))) known (reverse (take (length proof - 1) proof)) root ≡ None

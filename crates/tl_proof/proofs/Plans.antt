@@ -32,7 +32,7 @@ entries_in-rest start middle end entries low high =
     ∙ drop-take (middle - start) (end - middle) (drop start entries)
     ∙ ap (take (end - middle)) (drop-drop (middle - start) start entries ∙ ap (λ (x : ℕ). drop x entries) from)
 
--- ---- where they begin
+-- ---- their beginning
 
 -- a power of two below another
 lower_power : (i j : ℕ) → 2 ^ i < 2 ^ j → i < j
@@ -42,7 +42,7 @@ lower_power i j less =
       | inr above ↦ absurd (let most : 2 ^ j ≤ 2 ^ i = pow_mono above in omega (arith, most, less))
     ]
 
--- both parts of a tree begin where a complete subtree does that has them all
+-- both parts of a tree begin with a complete subtree that has all of them
 pub aligned-parts : (start middle end : ℕ) → start ≤ middle → IsSplit (middle - start) (end - start) → IsAligned start end → IsAligned start middle × IsAligned middle end
 aligned-parts start middle end order s (level, place, at, fits) =
     let j : ℕ = s.power.0 in

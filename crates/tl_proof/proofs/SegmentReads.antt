@@ -58,7 +58,7 @@ All-left P xs ys all = subst (All P) (take-append_seam xs ys) (All-take P (lengt
 All-right : (P : ℕ → Type 0) (xs ys : List ℕ) → All P (xs ++ ys) → All P ys
 All-right P xs ys all = subst (All P) (drop-append_seam xs ys) (All-drop P (length xs) (xs ++ ys) all)
 
--- where all numbers are below the count of n entries, these have all the segments
+-- if all numbers are below the count of n entries, these have all the segments
 pub groups-within : (n : ℕ) (segments : List Segment) (indexes : List ℕ) → AreGroups segments indexes → All IsSegment segments → All (λ index. index < stored_count n) indexes → All (λ s. s.end ≤ n) segments
 groups-within n [] [] no_group parts below = All-nil (λ (s : Segment). s.end ≤ n)
 groups-within n [] (_ ∷ _) groups parts below = elim groups [ ]
@@ -84,7 +84,7 @@ needed-within needed n segments indexes need groups parts below =
       | inr none ↦ omega (arith, none)
     ]
 
--- where there is a segment, some entries are needed
+-- if there is a segment, some entries are needed
 pub needed-some : (needed : ℕ) (segments : List Segment) → IsNeeded 0 needed segments → All IsSegment segments → 0 < length segments → 0 < needed
 needed-some needed [] need parts some = absurd (let none : length {A = Segment} [] ≡ 0 = refl in omega arith)
 needed-some needed (s ∷ segments) need parts some =
@@ -98,7 +98,7 @@ needed-small needed most segments need small =
       | inr none ↦ omega (arith, none)
     ]
 
--- where a number is read there is a segment
+-- if a number is read, there is a segment
 pub groups-some : (segments : List Segment) (indexes : List ℕ) → AreGroups segments indexes → 0 < length indexes → 0 < length segments
 groups-some [] [] no_group some = some
 groups-some [] (_ ∷ _) groups some = elim groups [ ]
@@ -172,7 +172,7 @@ hashes-next H segments s later count hashes before between after root is order c
 
 -- ---- in the words of the code
 
--- where the reader has all segments, so has each list that it stands for
+-- if the reader has all segments, so has each list that it stands for
 pub readable-all : (count : ℕ) (entries : List (List ℕ)) (segments : List Segment) → (length entries ≡ count) × (length entries ≤ 2 ^ 62) → All (λ s. s.end ≤ readable_size count) segments → All (λ s. s.end ≤ length entries) segments
 readable-all count entries segments stands within =
     All-weaker (λ (s : Segment). s.end ≤ readable_size count) (λ (s : Segment). s.end ≤ length entries) (λ s h. within_reader count s.end (length entries) h stands.0) segments within
@@ -242,7 +242,7 @@ pub count-all : (segments : List Segment) (i count : ℕ) → length segments �
     → count ≡ min (subtree_count segments) (2 ^ 64 - 1)
 count-all segments i count end fits so_far = omega (arith, no_subtree segments i end, fits, so_far)
 
--- where there is a subtree there is a segment
+-- if there is a subtree, there is a segment
 pub subtrees-some : (segments : List Segment) → 0 < subtree_count segments → 0 < length segments
 subtrees-some [] some = some
 subtrees-some (s ∷ segments) some = let count : length (s ∷ segments) ≡ suc (length segments) = refl in omega arith

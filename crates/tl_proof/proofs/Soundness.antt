@@ -1,5 +1,5 @@
--- An inclusion proof that leads to the root of a list leads from the leaf of its entry, or an input of the check and one of
--- the list collide.
+-- An inclusion proof that leads to the root of a list leads from the leaf of its entry, or an input of the check and
+-- one of the list collide.
 use Rattle.std.proofs.Common.{◌≡◌, ℕ, ◌-◌, ◌<◌, ◌≤◌, ◌⊎◌, zero, suc, ◌+◌, inl, inr, eqb, ltb, leb, cond, option_map, List, [], ◌∷◌, ◌++◌, length, take, drop, reverse, get_or, Option, Some, None, Contains, refl, sym, ap, subst, ◌∙◌, arith}
 use Rattle.std.specs.Prelude.{IfSome}
 use Rattle.std.specs.List.{AllByRecursion}

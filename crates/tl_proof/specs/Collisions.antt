@@ -1,5 +1,5 @@
--- What an audit shows where one list does not extend another: two of the byte strings that were hashed
--- (RFC 6962, sections 2.1 and 2.1.2).
+-- What an audit shows if one list doesn't extend another: two of the byte strings that were hashed (RFC 6962,
+-- sections 2.1 and 2.1.2).
 use Rattle.std.specs.Prelude.{◌≡◌, ℕ, ◌-◌, Bool, true, false, List, [], ◌∷◌, ◌++◌, length, take, reverse, nat_lt, nat_le, ◌==◌, if◌then◌else◌}
 use Rattle.tl_hash.specs.Bytes.{Bytes, Digest}
 use Rattle.tl_hash.specs.Split.{split_point}
@@ -11,7 +11,7 @@ use Rattle.tl_proof.specs.Acceptance.{Step, root_from_leaf, input_on_left, input
 abbrev pub IsPrefix : List Bytes → List Bytes → Type 0
 IsPrefix old new = old ≡ take (length old) new
 
--- the byte strings hashed on the way that `root_from_leaf` goes, case by case
+-- the byte strings that `root_from_leaf` hashes, case by case
 unfoldable pub path_inputs_from : Digest → ℕ → ℕ → List Bytes → Bytes → List Bytes
 path_inputs_from H index size [] leaf = []
 path_inputs_from H index size (last ∷ others) leaf =
@@ -25,7 +25,7 @@ unfoldable pub path_inputs : Digest → ℕ → ℕ → List Bytes → Bytes →
 path_inputs H index size proof entry =
     leaf_input entry ∷ path_inputs_from H index size (reverse proof) (H (leaf_input entry))
 
--- the byte strings hashed on the way that `roots_from` goes, case by case
+-- the byte strings that `roots_from` hashes, case by case
 unfoldable pub fold_inputs_from : Digest → ℕ → ℕ → Bool → List Bytes → Bytes → List Bytes
 -- no hash is left: none
 fold_inputs_from H old new known [] root = []
@@ -33,13 +33,13 @@ fold_inputs_from H old new known (last ∷ others) root =
     let k : ℕ = split_point new in
     -- all entries are old: none
     if old == new then []
-    -- all old entries lie in the left part: that of the node over it, and those for the left part
+    -- all old entries are in the left part: that of the node over it, and those for the left part
     else if nat_le old k
     then inputs_on_left (roots_from H old k known others root) last ++ fold_inputs_from H old k known others root
     -- the left part is old: those of the two nodes over the right part, and those for the right part
     else inputs_on_right (roots_from H (old - k) (new - k) false others root) last ++ fold_inputs_from H (old - k) (new - k) false others root
 
--- the byte strings whose digests the check of a consistency proof takes
+-- the byte strings hashed for the check of a consistency proof
 unfoldable pub fold_inputs : Digest → ℕ → ℕ → List Bytes → Bytes → List Bytes
 fold_inputs H old new proof root = if old == 0 then [] else fold_inputs_from H old new true (reverse proof) root
 
@@ -47,8 +47,8 @@ fold_inputs H old new proof root = if old == 0 then [] else fold_inputs_from H o
 abbrev pub Exhibits : Digest → Bytes → Bytes → List Bytes → Type 0
 Exhibits H x y strings = Collides H x y strings strings
 
--- the byte strings hashed for the steps from this size and root: those of the prefix of each step's
--- size, and those of the check of each step's proof
+-- the byte strings hashed for the steps from this size and root: those of the new list's prefix of each step's size,
+-- and those of the check of each step's proof
 unfoldable pub step_inputs : Digest → List Bytes → ℕ → Bytes → List Step → List Bytes
 step_inputs H new old old_root [] = []
 step_inputs H new old old_root (step ∷ steps) =

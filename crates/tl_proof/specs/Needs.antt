@@ -1,8 +1,8 @@
--- How many of the first entries the hashes of a proof are over (RFC 6962, sections 2.1.1 and 2.1.2).
+-- The number of first entries that the hashes of a proof are over (RFC 6962, sections 2.1.1 and 2.1.2).
 use Rattle.std.specs.Prelude.{ℕ, ◌+◌, ◌==◌, ◌||◌, max, List, [], ◌∷◌, if◌then◌else◌}
 
--- the inclusion proof of the entry at this index is over all the others of the first `size`: so over no
--- entry past that one, where it is the last
+-- the inclusion proof of the entry at this index is over all other entries of the first `size`; if the entry is the
+-- last, these end before it
 abbrev pub inclusion_needs : ℕ → ℕ → ℕ
 inclusion_needs size index = if index + 1 == size then index else size
 
@@ -11,7 +11,7 @@ abbrev pub records_need : ℕ → List ℕ → ℕ
 records_need size [] = 0
 records_need size (index ∷ indexes) = max (inclusion_needs size index) (records_need size indexes)
 
--- the consistency proof for the first `old` entries ends with the last of the first `size`, where it has
--- a hash: not from none, and not from all of them
+-- the consistency proof for the first `old` entries is over the first `size`, or over none if it has no hash: for an
+-- old size of 0, or of all entries
 abbrev pub consistency_needs : ℕ → ℕ → ℕ
 consistency_needs size old = if (old == 0) || (old == size) then 0 else size

@@ -1,14 +1,15 @@
-//! Audits: whether a new list extends an old one, or two strings that collide where accepted proofs say so wrongly.
+//! Audits: a new list extends an old one, or accepted proofs show two byte strings that collide.
 //!
-//! An audit checks the links first (`links`): they lead from the old list's size and root to those of the new one,
-//! or the answer is `NotAccepted`. Then it compares the entries (`list_walk`): where the old list is a prefix the
-//! answer is `Extends`. Else two strings that were hashed collide, and it looks for them. From the last link back
-//! (`links`) it walks down the check of a link's proof beside the tree of the new list's prefix up to the link's
-//! size (`link_walk`): at the first link that begins with a root other than the prefix has, two nodes with one
-//! digest are over other hashes, a `Fork` (`fork`). Where there is no such link, the old root is that of a prefix
-//! of the new list, and the walk down the trees of the two to a place where they differ (`list_walk`) finds two
-//! nodes, or the leaves of the two entries there. Their strings are written out last (`exhibits`), which alone
-//! takes memory.
+//! An audit checks the links first (`links`). If they don't lead from the old list's size and root to those of the
+//! new list, it fails with `NotAccepted`. Then it compares the entries (`list_walk`). If the old list is a prefix,
+//! the verdict is `Extends`. Otherwise two of the strings that were hashed collide, and the audit looks for them.
+//!
+//! It goes over the links from the last to the first (`links`), and for each follows the check of its proof beside
+//! the tree of the new list's prefix of the link's size (`link_walk`). The last link whose old root isn't that of the
+//! prefix has two nodes with one digest over different hashes, a `Fork` (`fork`). If there is no such link, the old
+//! root is that of a prefix of the new list. Then the trees of the old list and of this prefix are followed to a
+//! place where the lists differ (`list_walk`), which finds two such nodes, or the leaves of the two entries. The
+//! strings are written out last (`exhibits`), and only that allocates.
 
 ghost use Rattle.std.specs.Prelude.{◌≤◌, ◌∷◌, [], List, length, map, vec_items};
 ghost use Rattle.tl_hash.specs.Tree.{tree_hash};
@@ -33,8 +34,8 @@ use crate::verdict::{AuditFault, Verdict};
 use std::alloc::Allocator;
 use tl_hash::{Hash, TreeHash, entry_root};
 
-// The fork that was found in the links, or where there is none that between the old list and as many entries of the new
-// one, on the way to a place at which these differ.
+// Returns the fork that was found in the links. If there is none, returns the one between the old list and the new
+// list's prefix of its length, on the path to a place at which the lists differ.
 fn fork_or_lists<T: TreeHash, B: Allocator>(
     h: T,
     in_links: Option<Fork>,
@@ -54,7 +55,7 @@ fn fork_or_lists<T: TreeHash, B: Allocator>(
     }
 }
 
-// The verdict with the strings of a fork, or where there is none of the leaves of two entries.
+// Returns the verdict with the strings of a fork, or those of the leaves of two entries if there is no fork.
 fn collision_of<A: Allocator + Copy>(
     alloc: A,
     fork: Option<Fork>,
@@ -67,7 +68,7 @@ fn collision_of<A: Allocator + Copy>(
     Ok(Verdict::Collision(first, second))
 }
 
-// The collision in the links, or where there is none the one between the lists, which differ at this place.
+// Returns the collision in the links, or if there is none, the one between the lists, which differ at this place.
 fn show_collision<T: TreeHash, A: Allocator + Copy, B: Allocator>(
     alloc: A,
     h: T,
@@ -87,11 +88,11 @@ fn show_collision<T: TreeHash, A: Allocator + Copy, B: Allocator>(
     collision_of(alloc, fork, old[place].as_slice(), new[place].as_slice())
 }
 
-/// What one accepted consistency proof (RFC 6962, section 2.1.2) shows of two lists: that the old one is a prefix of
-/// the new one, or two different byte strings with one digest that were hashed for the audit. `NotAccepted` comes
-/// where the proof isn't accepted from the old size and root to the new ones, and `OutOfMemory` where memory for the
-/// two strings is refused. It takes at most six digests for each entry and four for each hash of the proof; no more
-/// than 64 calls stand at once.
+/// Audits one accepted consistency proof (RFC 6962, section 2.1.2). Returns `Extends` if the old list is a prefix of
+/// the new one, and otherwise two different byte strings with one digest that were hashed for the audit. It fails
+/// with `NotAccepted` if the proof isn't accepted between the sizes and roots of the lists, and with `OutOfMemory` if
+/// allocation fails. It takes at most six digests for each entry and four for each hash of the proof; its recursion
+/// is at most 64 calls deep.
 pub fn audit_tree<T: TreeHash, A: Allocator + Copy, B: Allocator>(
     alloc: A,
     h: T,
@@ -116,10 +117,10 @@ pub fn audit_tree<T: TreeHash, A: Allocator + Copy, B: Allocator>(
     }
 }
 
-/// What a chain of accepted consistency proofs shows of two lists, as `audit_tree` of one. The roots between need not
-/// be those of any list. `NotAccepted` comes where a link isn't accepted from the one before it, the first from the
-/// old list's size and root, or the last hasn't those of the new list; with no links both must be the same. Where the
-/// old list isn't a prefix, each link takes two digests for each entry up to its size.
+/// Audits a chain of accepted consistency proofs, as `audit_tree` audits one. The roots in between need not be those
+/// of any list. It fails with `NotAccepted` if a link isn't accepted from the one before it, the first from the old
+/// list's size and root, or if the last link hasn't the new list's size and root. Without links the lists must have
+/// the same size and root. If the old list isn't a prefix, each link takes two digests for each entry up to its size.
 pub fn audit_chain<T: TreeHash, A: Allocator + Copy, B: Allocator, C: Allocator>(
     alloc: A,
     h: T,

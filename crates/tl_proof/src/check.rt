@@ -6,7 +6,7 @@ ghost use Rattle.tl_proof.specs.Acceptance.{root_from_leaf, roots_from, roots_of
 
 use tl_hash::{Hash, TreeHash, empty_hash, node_hash, split_point};
 
-// The node over a root that is there and a hash to its right.
+// Returns the node over a root, if there is one, and a hash to its right.
 fn join_right<T: TreeHash>(h: T, below: Option<Hash>, right: Hash) -> Option<Hash>
     ensures { result ≡ option_map (λ root. T.digest_of (node_input root right)) below }
 {
@@ -16,7 +16,7 @@ fn join_right<T: TreeHash>(h: T, below: Option<Hash>, right: Hash) -> Option<Has
     }
 }
 
-// The node over a hash and a root that is there to its right.
+// Returns the node over a hash and a root to its right, if there is one.
 fn join_left<T: TreeHash>(h: T, left: Hash, below: Option<Hash>) -> Option<Hash>
     ensures { result ≡ option_map (λ root. T.digest_of (node_input left root)) below }
 {
@@ -26,9 +26,9 @@ fn join_left<T: TreeHash>(h: T, left: Hash, below: Option<Hash>) -> Option<Hash>
     }
 }
 
-// The root of `size` leaves that the proof leads to from the leaf at this index. It goes down from the root with the
-// last hash of the proof: each call at least halves the size, or takes from it the left part, so that no more than 64
-// calls stand at once for any u64.
+// Returns the root of `size` leaves that the proof leads to from the leaf at this index. It goes down from the root
+// with the last hash of the proof. Each call at least halves the size or leaves the left part out, so the recursion
+// is at most 64 calls deep for any u64.
 fn lead_leaf<T: TreeHash>(h: T, index: u64, size: u64, proof: &[Hash], start: Hash) -> Option<Hash>
     ensures { result ≡ root_from_leaf T.digest_of index size (reverse proof.now) start }
 {
@@ -52,14 +52,14 @@ fn lead_leaf<T: TreeHash>(h: T, index: u64, size: u64, proof: &[Hash], start: Ha
     }
 }
 
-/// Whether two hashes are the same.
+/// Reports whether two hashes are the same.
 pub(crate) fn same(a: Hash, b: Hash) -> bool
     ensures { IsTrue result ↔ (a ≡ b) }
 {
     a == b
 }
 
-// Whether this is the root that was found.
+// Reports whether a root was found and is this one.
 fn found_root(found: Option<Hash>, root: Hash) -> bool
     ensures { IsTrue result ↔ (found ≡ Some root) }
 {
@@ -69,7 +69,7 @@ fn found_root(found: Option<Hash>, root: Hash) -> bool
     }
 }
 
-// Whether these are the old and the new root that were found.
+// Reports whether roots were found and are these.
 fn found_roots(found: Option<(Hash, Hash)>, old_root: Hash, root: Hash) -> bool
     ensures { IsTrue result ↔ (found ≡ Some (old_root, root)) }
 {
@@ -79,9 +79,9 @@ fn found_roots(found: Option<(Hash, Hash)>, old_root: Hash, root: Hash) -> bool
     }
 }
 
-/// Whether the proof is accepted for the leaf hash at this index under the root of `size` entries (RFC 6962,
-/// section 2.1.1). The index counts from 0. It takes no memory, and one digest for each hash that it uses; no more
-/// than 64 calls stand at once.
+/// Reports whether the proof is accepted for the leaf hash at this index, counted from 0, under the root of `size`
+/// entries (RFC 6962, section 2.1.1). It allocates nothing, and takes one digest for each hash that it uses; its
+/// recursion is at most 64 calls deep.
 pub fn check_record<T: TreeHash>(
     h: T,
     proof: &[Hash],
@@ -95,7 +95,7 @@ pub fn check_record<T: TreeHash>(
     index < size && found_root(lead_leaf(h, index, size, proof, leaf), root)
 }
 
-// The old root as it is, and the node over the new root and a hash to its right.
+// Returns the old root as it is, and the node over the new root and a hash to its right.
 fn join_new<T: TreeHash>(h: T, below: Option<(Hash, Hash)>, right: Hash) -> Option<(Hash, Hash)>
     ensures { result ≡ option_map (roots_on_left T.digest_of right) below }
 {
@@ -105,7 +105,7 @@ fn join_new<T: TreeHash>(h: T, below: Option<(Hash, Hash)>, right: Hash) -> Opti
     }
 }
 
-// The nodes over a hash and each of the two roots to its right.
+// Returns the nodes over a hash and each of the two roots to its right.
 fn join_both<T: TreeHash>(h: T, left: Hash, below: Option<(Hash, Hash)>) -> Option<(Hash, Hash)>
     ensures { result ≡ option_map (roots_on_right T.digest_of left) below }
 {
@@ -115,7 +115,8 @@ fn join_both<T: TreeHash>(h: T, left: Hash, below: Option<(Hash, Hash)>) -> Opti
     }
 }
 
-// The one hash of a proof as old and new root.
+// Returns the only hash of a proof as the old and the new root, or `None` if the proof has more hashes, or if the old
+// root is `known`.
 fn only_hash(known: bool, proof: &[Hash]) -> Option<(Hash, Hash)>
     requires { 0 < length proof.now }
     ensures { result ≡ roots_of_whole known (reverse proof.now) }
@@ -127,7 +128,8 @@ fn only_hash(known: bool, proof: &[Hash]) -> Option<(Hash, Hash)>
     }
 }
 
-/// The old and the new root that the proof leads to. No more than 64 calls stand at once for any u64, as above.
+/// Returns the old and the new root that the proof leads to. The recursion is at most 64 calls deep for any u64, as
+/// in `lead_leaf`.
 pub(crate) fn lead_roots<T: TreeHash>(
     h: T,
     old: u64,
@@ -164,7 +166,7 @@ pub(crate) fn lead_roots<T: TreeHash>(
     }
 }
 
-// Whether there is no hash in the proof, and two roots are the same.
+// Reports whether the proof is empty and two roots are the same.
 fn empty_and_same(proof: &[Hash], a: Hash, b: Hash) -> bool
     ensures { IsTrue result ↔ ((proof.now ≡ []) × (a ≡ b)) }
 {
@@ -174,9 +176,10 @@ fn empty_and_same(proof: &[Hash], a: Hash, b: Hash) -> bool
     }
 }
 
-/// Whether the proof is accepted between the old size and root and the new ones (RFC 6962, section 2.1.2). From the old
-/// size 0, whose root is the hash of no bytes, and between equal sizes and roots only the empty proof is. It takes no
-/// memory, and a digest for each hash that it uses, or two where both roots grow; no more than 64 calls stand at once.
+/// Reports whether the proof is accepted from the old size and root to the new ones (RFC 6962, section 2.1.2). From
+/// the old size 0, whose root is the hash of no bytes, and between equal sizes and roots only the empty proof is
+/// accepted. It allocates nothing, and takes one digest for each hash that it uses, or two if both roots grow; its
+/// recursion is at most 64 calls deep.
 pub fn check_tree<T: TreeHash>(
     h: T,
     proof: &[Hash],

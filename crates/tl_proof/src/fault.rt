@@ -6,13 +6,13 @@ use std::alloc::AllocError;
 use thiserror::Error;
 use tl_store::ReadFault;
 
-/// Why a proof could not be made, in the order in which the refusals are checked.
+/// The reasons why a proof can't be made, in the order in which they are checked.
 #[derive(Clone, Copy, Debug, PartialEq, Eq, Error)]
 pub enum ProveFault {
     /// The index is not below the size, the old size is above it, or the size is above 2^62.
     #[error("the index or the size is out of range")]
     BadRange,
-    /// The stored hashes could not be read. This is never for want of memory.
+    /// The stored hashes can't be read, for a reason other than memory.
     #[error("the stored hashes could not be read: {0}")]
     Read(ReadFault),
     /// Memory ran out.

@@ -1,4 +1,4 @@
-//! Laws over the definitions: proofs are accepted, and accepted proofs show a prefix or a collision.
+//! Laws: the proofs are accepted, and accepted proofs show a prefix or a collision.
 
 ghost use Rattle.std.specs.Prelude.{ℕ, ◌<◌, List, [], length, slice_index_or, ◌≤◌, take, ◌≡◌, ◌⊎◌, All};
 ghost use Rattle.tl_hash.specs.Bytes.{Bytes, Digest};
@@ -17,9 +17,9 @@ pub fn inclusion_law()
         (tree_hash H entries) index (H (leaf_input (slice_index_or entries index []))) }
 {}
 
-/// An inclusion proof that is accepted for an entry under the root of a list is of the list's own entry at that
-/// index, or two different byte strings, one hashed for the check and one for the list, have one digest; for every
-/// digest function with digests of 32 bytes. It computes nothing: its contract is the law.
+/// If an inclusion proof is accepted for an entry under the root of a list, the entry is that of the list at this
+/// index, or two different byte strings, one hashed for the check and one for the list, have one digest. This holds
+/// for every digest function with digests of 32 bytes. It computes nothing: its contract is the law.
 pub fn inclusion_soundness_law()
     ensures { (H : Digest) → ((message : Bytes) → HasHashLength (H message))
         → (entries : List Bytes) (index : ℕ) (entry : Bytes) (proof : List Bytes)
@@ -29,17 +29,17 @@ pub fn inclusion_soundness_law()
         × Collides H x y (path_inputs H index (length entries) proof entry) (inputs H entries)) }
 {}
 
-/// The consistency proof for each prefix is accepted (RFC 6962, section 2.1.2), for every digest function. It computes
-/// nothing: its contract is the law.
+/// The consistency proof for each prefix is accepted (RFC 6962, section 2.1.2), for every digest function. It
+/// computes nothing: its contract is the law.
 pub fn consistency_law()
     ensures { (H : Digest) (entries : List Bytes) (old : ℕ)
         → old ≤ length entries → AcceptsConsistency H (consistency_proof H old entries)
         (length entries) (tree_hash H entries) old (tree_hash H (take old entries)) }
 {}
 
-/// Where accepted consistency proofs lead from the root of one list to the root of another, the first list is a prefix
-/// of the second, or two different byte strings out of a named finite list have one digest; for every digest function
-/// with digests of 32 bytes. It computes nothing: its contract is the law.
+/// If accepted consistency proofs lead from the root of one list to the root of another, the first list is a prefix
+/// of the second, or two different byte strings out of a named finite list have one digest. This holds for every
+/// digest function with digests of 32 bytes. It computes nothing: its contract is the law.
 pub fn audit_law()
     ensures { (H : Digest) → ((message : Bytes) → HasHashLength (H message))
         → (old new : List Bytes) (steps : List Step) → All MadeOfHashes steps

@@ -1,4 +1,4 @@
-//! A checkpoint's size and root, with the consistency proof that leads to it.
+//! Links: a size and a root, with the consistency proof that leads to them.
 
 ghost use Rattle.std.specs.Prelude.{◌≡◌, IfOk};
 
@@ -6,7 +6,7 @@ use std::alloc::{AllocError, Allocator};
 use std::marker::Model;
 use tl_hash::Hash;
 
-/// A list of hashes, as a consistency proof is. A contract sees the list of them.
+/// A list of hashes, such as a consistency proof. A contract sees the list.
 #[derive(Drop)]
 pub struct HashList<A: Allocator> {
     hashes: Vec<Hash, A>,
@@ -21,21 +21,21 @@ impl<A: Allocator> Model for HashList<A> {
 }
 
 impl<A: Allocator> HashList<A> {
-    /// The list of these hashes. It takes no memory.
+    /// Returns a list of these hashes. It allocates nothing.
     pub fn from_vec(hashes: Vec<Hash, A>) -> Self
         ensures { result ≡ hashes.items }
     {
         HashList { hashes }
     }
 
-    /// Its hashes.
+    /// Returns its hashes.
     pub fn as_slice(&self) -> &[Hash]
         ensures { result.now ≡ self.now }
     {
         self.hashes.as_slice()
     }
 
-    /// Its hashes, given back.
+    /// Returns its hashes as a vector.
     pub fn into_vec(self) -> Vec<Hash, A>
         ensures { result.items ≡ self }
     {
@@ -44,7 +44,7 @@ impl<A: Allocator> HashList<A> {
     }
 }
 
-/// A size and a root, with the consistency proof that leads there from the size and root before (RFC 6962, section
+/// A size and a root, with the consistency proof that leads to them from the size and root before (RFC 6962, section
 /// 2.1.2).
 #[derive(Drop)]
 pub struct Link<A: Allocator> {
@@ -59,7 +59,7 @@ pub struct Link<A: Allocator> {
 impl<A: Allocator> Link<A> {
     ghost use Rattle.tl_proof.specs.Acceptance.{step_of};
 
-    /// A copy of a link. It fails only where memory is refused.
+    /// Returns a copy of a link. It fails only if allocation fails.
     pub fn copy_of<B: Allocator>(alloc: A, link: &Link<B>) -> Result<Self, AllocError>
         ensures { IfOk result (λ copy. step_of copy ≡ step_of link.now) }
     {

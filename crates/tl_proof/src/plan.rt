@@ -1,4 +1,4 @@
-//! Which parts of the entries the hashes of a proof are over.
+//! The parts of the entries that the hashes of a proof are over.
 
 ghost use Rattle.std.specs.Prelude.{◌<◌, ◌≤◌, ◌-◌, ◌^◌, Bool, true, All, IfOk, OnOk, OnErr};
 ghost use Rattle.tl_proof.specs.ProveFaults.{IsIndex};
@@ -8,16 +8,16 @@ ghost use Rattle.tl_proof.specs.Inner.ManyPaths.{IsPathsPlan};
 use std::alloc::{AllocError, Allocator};
 use tl_hash::split_point;
 
-/// The entries from `start` up to `end`, without that of `end`.
+/// The entries from `start` up to `end`, which isn't included.
 #[derive(Clone, Copy)]
 pub(crate) struct Segment {
     pub(crate) start: u64,
     pub(crate) end: u64,
 }
 
-// Adds the segments of the path from the entry at this index up to the root of the tree over the entries from
-// `start` up to `end`. Each call at least halves their number or takes the left part off, so no more than 62 calls
-// stand at once.
+// Adds the segments of the path from the entry at this index up to the root of the tree over the entries from `start`
+// up to `end`. Each call at least halves their number or leaves the left part out, so the recursion is at most 62
+// calls deep.
 fn push_path<A: Allocator>(
     segments: &mut Vec<Segment, A>,
     index: u64,
@@ -44,7 +44,7 @@ fn push_path<A: Allocator>(
     Ok(())
 }
 
-/// The segments of the inclusion proof of the entry at this index among the first `size`.
+/// Returns the segments of the inclusion proof of the entry at this index among the first `size`.
 pub(crate) fn path_segments<A: Allocator>(
     alloc: A,
     size: u64,
@@ -59,14 +59,14 @@ pub(crate) fn path_segments<A: Allocator>(
     Ok(segments)
 }
 
-/// The segments of several proofs, one proof after another, and how many there are of each.
+/// The segments of several proofs, one proof after another, and the number of segments of each.
 #[derive(Drop)]
 pub(crate) struct PathsPlan<A: Allocator> {
     pub(crate) segments: Vec<Segment, A>,
     pub(crate) counts: Vec<usize, A>,
 }
 
-/// The segments of the inclusion proofs of the entries at these indexes among the first `size`.
+/// Returns the segments of the inclusion proofs of the entries at these indexes among the first `size`.
 pub(crate) fn paths_segments<A: Allocator + Copy>(
     alloc: A,
     size: u64,
@@ -86,9 +86,9 @@ pub(crate) fn paths_segments<A: Allocator + Copy>(
     Ok(PathsPlan { segments, counts })
 }
 
-// Adds the segments of the consistency proof for the entries before `old` in the tree over the entries from `start` up
-// to `end`. `known` says whether the verifier has the tree's hash where all its entries are old. As many calls stand at
-// once as for a path.
+// Adds the segments of the consistency proof for the entries before `old` in the tree over the entries from `start`
+// up to `end`. `known` says whether the verifier has the hash of this tree if all its entries are old. The recursion
+// is as deep as for a path.
 fn push_proof<A: Allocator>(
     segments: &mut Vec<Segment, A>,
     old: u64,
@@ -118,7 +118,7 @@ fn push_proof<A: Allocator>(
     Ok(())
 }
 
-/// The segments of the consistency proof from the first `old` entries to the first `size`.
+/// Returns the segments of the consistency proof from the first `old` entries to the first `size`.
 pub(crate) fn proof_segments<A: Allocator>(
     alloc: A,
     size: u64,

@@ -15,11 +15,10 @@ use std::alloc::{AllocError, Allocator};
 use tl_hash::{Hash, TreeHash};
 use tl_store::HashReader;
 
-/// The inclusion proof of the entry at `index`, counted from 0, among the first `size` (PATH of RFC 6962, section
-/// 2.1.1), the hash nearest to the leaf first: at most 62 hashes, made from one `read`. `BadRange` comes where
-/// `index` is not below `size` or `size` is above 2^62. A size above the reader's is `Read(OutOfRange)` where a
-/// hash is over a place past the reader's last; else the entries that are not there make no difference. What a
-/// failing source answers is passed on.
+/// Returns the inclusion proof of the entry at `index`, counted from 0, among the first `size` (PATH of RFC 6962,
+/// section 2.1.1): at most 62 hashes, the one nearest to the leaf first, from one `read`. It fails with `BadRange` if
+/// `index` isn't below `size` or `size` is above 2^62, and with `Read(OutOfRange)` if a hash is over an entry past
+/// the reader's last. A fault of the reader's source is returned as it is.
 pub fn prove_record<T: TreeHash, R: HashReader, A: Allocator + Copy>(
     alloc: A,
     h: T,
@@ -42,21 +41,21 @@ pub fn prove_record<T: TreeHash, R: HashReader, A: Allocator + Copy>(
     Ok(read_segments(alloc, h, &segments, reader)?)
 }
 
-// Whether this is an index among the first `size` entries.
+// Reports whether this is an index among the first `size` entries, and `size` is at most 2^62.
 fn is_index(size: u64, index: u64) -> bool
     ensures { IsTrue result ↔ IsIndex size index }
 {
     index < size && size <= 1 << 62
 }
 
-// Whether these are all indexes among the first `size` entries.
+// Reports whether these are all indexes among the first `size` entries.
 fn are_indexes(size: u64, indexes: &[u64]) -> bool
     ensures { IsTrue result ↔ All (IsIndex size) indexes.now }
 {
     indexes.iter().all(|index| is_index(size, *index))
 }
 
-// The list of hashes cut into lists of these lengths, from its beginning.
+// Cuts a list of hashes into lists of these lengths, from its beginning.
 fn cut_hashes<A: Allocator + Copy>(
     alloc: A,
     counts: &[usize],
@@ -77,10 +76,11 @@ fn cut_hashes<A: Allocator + Copy>(
     Ok(lists)
 }
 
-/// The inclusion proofs of the entries at these indexes among the first `size`, in their order, made from one `read`,
-/// and without any where there is no index. Each is the proof that `prove_record` makes. `BadRange` comes where some
-/// index is not below `size`, or where there is an index and `size` is above 2^62; `Read(OutOfRange)` where some hash
-/// is over a place past the reader's last. What a failing source answers is passed on.
+/// Returns the inclusion proofs of the entries at these indexes among the first `size`, in order. Each is the proof
+/// that `prove_record` makes. All hashes come from one `read`, or from none if no index is given. It fails with
+/// `BadRange` if an index isn't below `size`, or if there is an index and `size` is above 2^62, and with
+/// `Read(OutOfRange)` if a hash is over an entry past the reader's last. A fault of the reader's source is returned
+/// as it is.
 pub fn prove_records<T: TreeHash, R: HashReader, A: Allocator + Copy>(
     alloc: A,
     h: T,
@@ -108,10 +108,11 @@ pub fn prove_records<T: TreeHash, R: HashReader, A: Allocator + Copy>(
     Ok(cut_hashes(alloc, &plan.counts, &hashes)?)
 }
 
-/// The consistency proof from the first `old` entries to the first `size` (PROOF of RFC 6962, section 2.1.2), the hash
-/// nearest to the leaves first: at most 63 hashes, made from one `read`, and none from the old size 0. An empty proof
-/// reads nothing. `BadRange` comes where `old` is above `size` or `size` is above 2^62. A size above the reader's is
-/// `Read(OutOfRange)` where the proof has a hash. What a failing source answers is passed on.
+/// Returns the consistency proof from the first `old` entries to the first `size` (PROOF of RFC 6962, section 2.1.2):
+/// at most 63 hashes, the one nearest to the leaves first, from one `read`. From the old size 0 it is empty, and an
+/// empty proof reads nothing. It fails with `BadRange` if `old` is above `size` or `size` is above 2^62, and with
+/// `Read(OutOfRange)` if the proof has a hash and `size` is above the reader's. A fault of the reader's source is
+/// returned as it is.
 pub fn prove_tree<T: TreeHash, R: HashReader, A: Allocator + Copy>(
     alloc: A,
     h: T,

@@ -1,4 +1,4 @@
-//! The tree hashes of segments from stored hashes.
+//! Tree hashes of segments, from stored hashes.
 
 ghost use Rattle.std.specs.Prelude.{◌≡◌, ◌≤◌, ◌<◌, ◌-◌, ◌^◌, ◌++◌, ℕ, List, length, map, min, All, IfOk, IfErr, OnOk, OnErr};
 ghost use Rattle.std.specs.Int.RustNames.{count_ones};
@@ -13,7 +13,7 @@ use std::alloc::{AllocError, Allocator};
 use tl_hash::{Hash, TreeHash};
 use tl_store::{HashReader, ReadFault, cover_hash, cover_indexes};
 
-// How many complete subtrees cover a segment.
+// Returns the number of complete subtrees that cover a segment.
 fn subtrees(segment: Segment) -> usize
     requires { segment.start ≤ segment.end }
     ensures { result ≡ count_ones (segment.end - segment.start) }
@@ -21,8 +21,8 @@ fn subtrees(segment: Segment) -> usize
     (segment.end - segment.start).count_ones() as usize
 }
 
-// How many complete subtrees cover all these segments, and the largest number where they are more: no list has room for
-// so many.
+// Returns the number of complete subtrees that cover these segments, or 2^64 - 1 if it is larger; no list has room
+// for that many.
 fn all_subtrees(segments: &[Segment]) -> usize
     requires { All IsSegment segments.now }
     ensures { result ≡ min (subtree_count segments.now) (2 ^ 64 - 1) }
@@ -34,7 +34,7 @@ fn all_subtrees(segments: &[Segment]) -> usize
     count
 }
 
-// The numbers of the complete subtrees that cover each segment, one segment after another. Memory is asked for once.
+// Returns the numbers of the complete subtrees that cover each segment, one segment after another. It allocates once.
 fn group_indexes<A: Allocator>(alloc: A, segments: &[Segment]) -> Result<Vec<u64, A>, AllocError>
     requires parts { All IsSegment segments.now }
     requires small { All (λ s. s.end ≤ 2 ^ 62) segments.now }
@@ -49,7 +49,7 @@ fn group_indexes<A: Allocator>(alloc: A, segments: &[Segment]) -> Result<Vec<u64
     Ok(indexes)
 }
 
-// The tree hash of each segment, from the hashes of the complete subtrees that cover it.
+// Returns the tree hash of each segment from the hashes of the complete subtrees that cover it.
 fn group_hashes<T: TreeHash, A: Allocator>(
     alloc: A,
     h: T,
@@ -75,8 +75,8 @@ fn group_hashes<T: TreeHash, A: Allocator>(
     Ok(roots)
 }
 
-/// The tree hashes of these segments, in one read. They are the same over any list that begins with the reader's
-/// entries. `OutOfRange` comes where a segment is over a place past the reader's last.
+/// Returns the tree hashes of these segments, from one read. They are the same over any list that begins with the
+/// reader's entries. It fails with `OutOfRange` if a segment has an entry past the reader's last.
 pub(crate) fn read_segments<T: TreeHash, R: HashReader, A: Allocator + Copy>(
     alloc: A,
     h: T,

@@ -1,4 +1,4 @@
-//! What an audit answers.
+//! The verdicts of an audit.
 
 ghost use Rattle.std.specs.Prelude.{◌≡◌};
 
@@ -10,8 +10,8 @@ use thiserror::Error;
 pub enum Verdict<A: Allocator> {
     /// The old list is a prefix of the new one.
     Extends,
-    /// It is not, and here are two different byte strings with one digest, both of which were hashed for the audit: the
-    /// digest function is broken.
+    /// It isn't, and these are two different byte strings with one digest, both of which were hashed for the audit:
+    /// the digest function is broken.
     Collision(Vec<u8, A>, Vec<u8, A>),
 }
 

@@ -1,4 +1,4 @@
-//! Checks of many inclusion proofs, four side by side.
+//! Checks of many inclusion proofs, four at a time.
 
 ghost use Rattle.std.specs.Prelude.{◌≡◌, ◌<◌, ◌↔◌, IsTrue, IfSome, All, Some, reverse, length, option_map, slice_index_or, if◌then◌else◌, [], ◌∷◌, List};
 ghost use Rattle.tl_hash.specs.Bytes.{Bytes, Digest};
@@ -8,19 +8,19 @@ ghost use Rattle.tl_records.specs.Inner.Lanes.{LeadsTo, lane_root, node_with};
 use tl_hash::{Hash, TreeHash, hash_level, split_point};
 use tl_proof::check_record;
 
-/// A claim of inclusion: the entry at `index`, counted from 0, has this leaf hash. Its inclusion proof goes with it
-/// (PATH of RFC 6962, section 2.1.1), the hash nearest to the leaf first.
+/// A claim that the entry at `index`, counted from 0, has this leaf hash, with its inclusion proof (PATH of RFC 6962,
+/// section 2.1.1). The proof begins with the hash nearest to the leaf.
 #[derive(Clone, Copy)]
 pub struct InclusionClaim<'a> {
-    /// The place of the entry, counted from 0.
+    /// The index of the entry, counted from 0.
     pub index: u64,
-    /// The hash of the entry's leaf.
+    /// The leaf hash of the entry.
     pub leaf: Hash,
     /// The inclusion proof of the entry.
     pub proof: &'a [Hash],
 }
 
-// The place of a leaf in a tree of `size` leaves, and its hash: what one of four proofs is followed for.
+// The leaf that a proof is about: its index in a tree of `size` leaves, and its hash.
 #[derive(Clone, Copy)]
 struct ClaimWalk {
     index: u64,
@@ -28,7 +28,7 @@ struct ClaimWalk {
     leaf: Hash,
 }
 
-// What four proofs are followed for.
+// The leaves that four proofs are about.
 #[derive(Clone, Copy)]
 struct Lanes {
     a: ClaimWalk,
@@ -37,14 +37,14 @@ struct Lanes {
     d: ClaimWalk,
 }
 
-// The step from a root down to the part of the tree where the leaf lies: the left part or the right one.
+// The step from a root down to the part of the tree with the leaf: the left part or the right one.
 #[derive(Clone, Copy)]
 struct Turn {
     below: ClaimWalk,
     on_left: bool,
 }
 
-// The leaves, where each is a whole tree.
+// Returns the four leaves, if each of them is a whole tree.
 fn only_leaves(lanes: Lanes) -> Option<[Hash; 4]>
     ensures a { IfSome result
         (λ roots. (H : Digest) → lane_root H lanes.a [] ≡ Some (slice_index_or roots 0 [])) }
@@ -62,7 +62,7 @@ fn only_leaves(lanes: Lanes) -> Option<[Hash; 4]>
     }
 }
 
-// The step from the root of a tree that has parts.
+// Returns the step from the root of a tree, or `None` if the tree has no parts.
 fn last_turn(lane: ClaimWalk) -> Option<Turn>
     ensures { IfSome result (λ turn.
         (H : Digest) (last : Bytes) (others : List Bytes) → lane_root H lane (last ∷ others)
@@ -91,7 +91,7 @@ fn last_turn(lane: ClaimWalk) -> Option<Turn>
     }
 }
 
-// The left and the right child of a node, where `root` is the one of them that the leaf lies below.
+// Returns the left and the right child of a node. The leaf is below `root`, on the side that `on_left` says.
 fn children(on_left: bool, root: Hash, beside: Hash) -> (Hash, Hash)
     ensures left { result.0 ≡ (if on_left then root else beside) }
     ensures right { result.1 ≡ (if on_left then beside else root) }
@@ -103,8 +103,8 @@ fn children(on_left: bool, root: Hash, beside: Hash) -> (Hash, Hash)
     }
 }
 
-// The roots that four proofs of one length lead to, where all four lead to one. It goes down from the four roots in
-// step, as the check of one proof does.
+// Returns the roots that four proofs of one length lead to, or `None` if one of them leads to none. It goes down from
+// the four roots in step, as the check of one proof does.
 fn lead_four<T: TreeHash>(
     h: T,
     lanes: Lanes,
@@ -144,7 +144,7 @@ fn lead_four<T: TreeHash>(
     Some(hash_level(h, &[a.0, b.0, c.0, d.0], &[a.1, b.1, c.1, d.1]))
 }
 
-// Whether the proof of one record is accepted.
+// Reports whether the proof of a claim is accepted.
 fn accepts_one<T: TreeHash>(h: T, size: u64, root: Hash, claim: &InclusionClaim<'_>) -> bool
     ensures { IsTrue result ↔ AcceptsInclusion
         T.digest_of claim.now.proof.now size root claim.now.index claim.now.leaf }
@@ -152,7 +152,7 @@ fn accepts_one<T: TreeHash>(h: T, size: u64, root: Hash, claim: &InclusionClaim<
     check_record(h, claim.proof, size, root, claim.index, claim.leaf)
 }
 
-// Whether the proof of each record is accepted, one by one.
+// Reports whether the proof of each claim is accepted, one by one.
 fn accepts_each<T: TreeHash>(h: T, size: u64, root: Hash, records: &[InclusionClaim<'_>]) -> bool
     ensures { IsTrue result
         ↔ All (λ r. AcceptsInclusion T.digest_of r.proof.now size root r.index r.leaf) records.now }
@@ -162,7 +162,7 @@ fn accepts_each<T: TreeHash>(h: T, size: u64, root: Hash, records: &[InclusionCl
         .all(|claim| accepts_one(h, size, root, claim))
 }
 
-// What one record is followed for.
+// Returns the leaf that a claim is about.
 fn lane_of(size: u64, claim: &InclusionClaim<'_>) -> ClaimWalk
     ensures index { result.index ≡ claim.now.index }
     ensures size { result.size ≡ size }
@@ -175,7 +175,7 @@ fn lane_of(size: u64, claim: &InclusionClaim<'_>) -> ClaimWalk
     }
 }
 
-// The roots that the proofs of four records lead to, where they have one length and each leads to one.
+// Returns the roots that the proofs of four claims lead to, or `None` if their lengths differ or one leads to none.
 fn lead_records<T: TreeHash>(
     h: T,
     size: u64,
@@ -206,21 +206,21 @@ fn lead_records<T: TreeHash>(
     lead_four(h, lanes, a.proof, b.proof, c.proof, d.proof)
 }
 
-// Whether an index is among the first `size`, and its proof leads to the root.
+// Reports whether an index is among the first `size`, and the root that was found is the given one.
 fn reaches(index: u64, size: u64, found: Hash, root: Hash) -> bool
     ensures { IsTrue result ↔ ((index < size) × (found ≡ root)) }
 {
     index < size && found == root
 }
 
-// Whether all four are true.
+// Reports whether all four are true.
 fn all_four(a: bool, b: bool, c: bool, d: bool) -> bool
     ensures { IsTrue result ↔ (IsTrue a × IsTrue b × IsTrue c × IsTrue d) }
 {
     a && b && c && d
 }
 
-// Whether the proof of each of four records is accepted.
+// Reports whether the proof of each of four claims is accepted.
 fn accepts_four<T: TreeHash>(
     h: T,
     size: u64,
@@ -252,10 +252,10 @@ fn accepts_four<T: TreeHash>(
     }
 }
 
-/// Whether each proof is accepted for its leaf hash at its index under the root of `size` entries (RFC 6962,
-/// section 2.1.1): what `check_record` says of each. Four proofs of equal length that stand side by side in the list
-/// are followed in step, and their digests taken four at a time. It takes no memory, and no more than 64 calls stand at
-/// once. Where there is no record it is true.
+/// Reports whether each proof is accepted for its leaf hash at its index under the root of `size` entries (RFC 6962,
+/// section 2.1.1), as `check_record` reports of one. Four proofs of equal length that are next to each other are
+/// followed in step, and their nodes hashed four at a time. For an empty list it is true. It allocates nothing, and
+/// its recursion is at most 64 calls deep.
 pub fn check_records<T: TreeHash>(
     h: T,
     size: u64,

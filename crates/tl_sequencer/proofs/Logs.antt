@@ -59,7 +59,7 @@ module _ {A : Type 0} where
   given-none (l ∷ lanes) new zero = sym (All-head (λ (l : Lane A). (l.given ≡ []) × (l.sent ≡ None)) l lanes new).0
   given-none (l ∷ lanes) new (suc k) = given-none lanes (All-tail (λ (l : Lane A). (l.given ≡ []) × (l.sent ≡ None)) l lanes new) k
 
-  -- where each end was taken in, what was sent is what was given out
+  -- if each end was taken in, what was sent is what was given out
   pub all-sent : (lanes : List (Lane A)) → All (λ l. l.sent ≡ Some l.given) lanes → map (λ (l : Lane A). unwrap_or l.sent []) lanes ≡ map given lanes
   all-sent [] all = refl
   all-sent (l ∷ lanes) all =

@@ -30,7 +30,7 @@ module _ {A : Type 0} where
   pub AreLanes-none : (capacity limit : ℕ) → AreLanes {A = A} 0 capacity limit [] []
   AreLanes-none capacity limit = record { counted = refl; fresh = All-nil _; as_many = refl; order = refl; own = All-nil _; unsent = All-nil _ }
 
-  -- a submitter keeps its ring where a lane is added
+  -- a submitter keeps its ring if a lane is added
   has-more : (lanes : List (Lane A)) (x : Lane A) (submitters : List (Sender A)) → All (Has lanes) submitters → All (Has (lanes ++ x ∷ [])) submitters
   has-more lanes x submitters own k d in' =
       let s = get_or submitters k d in

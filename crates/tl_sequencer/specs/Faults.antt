@@ -1,4 +1,4 @@
--- When a call is refused, and with which fault: the first whose case is true.
+-- When a call fails, and with which fault: the first whose case is true.
 use Rattle.std.specs.Prelude.{◌≡◌, ℕ, ◌+◌, ◌≤◌, ◌<◌, ◌⊎◌, List, length, None}
 use Rattle.tl_sequencer.specs.Log.{Sender, End, Log, entries_of, given_at, end_at}
 use Rattle.tl_sequencer.specs.declared.fault.OpenFault.{OpenFault}
@@ -14,7 +14,7 @@ Within most n = (1 ≤ n) × (n ≤ most)
 abbrev pub Outside : ℕ → ℕ → Type 0
 Outside most n = (n < 1) ⊎ (most < n)
 
--- a log of so many lanes, entries in a ring and entries in all can be opened
+-- a log with this many lanes, room in each ring and entries in all can be opened
 abbrev pub MayOpen : ℕ → ℕ → ℕ → Type 0
 MayOpen lanes capacity limit = Within 64 lanes × Within 65536 capacity × Within 4294967295 limit
 
@@ -39,11 +39,12 @@ TakeRefuses log lane most take.NoLane = length log.lanes ≤ lane
 TakeRefuses log lane most take.LogFull = (lane < length log.lanes) × (length (entries_of log) ≡ log.limit) × (0 < most)
 TakeRefuses log lane most take.OutOfMemory = MayTake log lane most × (0 < most) × (end_at log lane ≡ None)
 
--- what is left of the lane fits: the log with all that was sent is no longer than the limit and what the lane gave out
+-- what is left of the lane fits: the log and all that was sent to the lane have at most as many entries as the limit
+-- and what the lane gave out
 abbrev pub RestFits : {A : Type 0} → Log A → End A → Type 0
 RestFits log end = length (entries_of log) + length end.sent ≤ log.limit + length (given_at log end.lane)
 
--- `NoLane` is never answered, since the lane of an end is there
+-- `NoLane` never occurs, since the log has the lane of an end
 abbrev pub EndRefuses : {A : Type 0} → Log A → End A → TakeFault → Type 0
 EndRefuses log end take.NoLane = ⊥
 EndRefuses log end take.LogFull = log.limit + length (given_at log end.lane) < length (entries_of log) + length end.sent

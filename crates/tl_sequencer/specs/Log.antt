@@ -1,15 +1,15 @@
--- What a contract sees of a log, of a submitter and of an end. They follow no outside standard.
+-- What a contract sees of a log, of a submitter and of an end. This follows no public standard.
 use Rattle.std.specs.Prelude.{◌≡◌, ℕ, ◌≤◌, List, [], ◌++◌, length, map, Option, Some, None, slice_get, slice_index_or}
 use denote.RawPtr.{Ptr}
 
--- which ring it is: its memory, its names and its allocator, a value of the type A
+-- the identity of a ring: its memory, its names and its allocator, a value of the type A
 abbrev pub Ring : Type 0 → Type 0
 Ring A = (Ptr × Ptr) × (ℕ × (ℕ × ℕ)) × A
 
 pub record Lane (A : Type 0) : Type 0 where
   pub ring : Ring A
-  pub given : List (List ℕ)  -- what the ring gave out, in order
-  pub sent : Option (List (List ℕ))  -- what was sent in all, once the lane's end was taken in
+  pub given : List (List ℕ)  -- the entries that the ring gave out, in order
+  pub sent : Option (List (List ℕ))  -- all entries that were sent, once the lane's end was taken in
 
 pub record Log (A : Type 0) : Type 0 where
   pub base : List (List ℕ)  -- what the log began with
@@ -23,7 +23,7 @@ pub record Sender (A : Type 0) : Type 0 where
   pub lane : ℕ
   pub sent : List (List ℕ)  -- what was sent so far, in order
   pub limit : ℕ  -- the most entries that it may send
-  pub room : ℕ  -- so many more entries surely fit into the ring, also where none is taken from it
+  pub room : ℕ  -- at least this many more entries fit into the ring, even if none is taken from it
 
 pub record End (A : Type 0) : Type 0 where
   pub ring : Ring A
@@ -35,19 +35,19 @@ module _ {A : Type 0} where
   abbrev pub entries_of : Log A → List (List ℕ)
   entries_of log = log.base ++ log.taken
 
-  -- which ring each lane has. No call changes it
+  -- the ring of each lane, which no call changes
   abbrev pub rings_of : Log A → List (Ring A)
   rings_of log = map (λ l. l.ring) log.lanes
 
-  -- what each lane gave out
+  -- the entries that each lane gave out
   abbrev pub given_of : Log A → List (List (List ℕ))
   given_of log = map (λ l. l.given) log.lanes
 
-  -- what was sent to each lane in all, once its end was taken in
+  -- all entries that were sent to each lane, once its end was taken in
   abbrev pub ends_of : Log A → List (Option (List (List ℕ)))
   ends_of log = map (λ l. l.sent) log.lanes
 
-  -- the same of one lane, where it is there
+  -- the same for one lane, if the log has it
   abbrev pub given_at : Log A → ℕ → List (List ℕ)
   given_at log lane = slice_index_or (given_of log) lane []
 

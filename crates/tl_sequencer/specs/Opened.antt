@@ -1,4 +1,4 @@
--- What a log is when it was just opened.
+-- A log that was just opened.
 use Rattle.std.specs.Prelude.{◌≡◌, ℕ, List, [], length, map, None}
 use Rattle.std.specs.List.{All, range_with_len}
 use Rattle.tl_sequencer.specs.Log.{Log, Sender, IsSenderOf}

@@ -5,7 +5,7 @@ use Rattle.std.specs.Option.{unwrap_or}
 use Rattle.tl_sequencer.specs.Log.{Log, End, IsShort, entries_of, given_of, ends_of, given_at, end_at}
 use Rattle.tl_sequencer.specs.Merge.{IsMergeBy}
 
--- what is true of every log: the entries of each lane are what its ring gave out
+-- what is true of every log: the entries of each lane are those that its ring gave out
 pub record IsLog {A : Type 0} (log : Log A) : Type 0 where
   pub merged : IsMergeBy log.who log.taken (given_of log)
   pub ended : All (λ l. IfSome l.sent (λ sent. sent ≡ l.given)) log.lanes
@@ -13,7 +13,7 @@ pub record IsLog {A : Type 0} (log : Log A) : Type 0 where
   pub fits : length (entries_of log) ≤ log.limit
   pub short : All IsShort (entries_of log)
 
--- `count` more entries of the lane stand at the end of the log, and all else is as before
+-- `count` more entries of the lane are appended to the log, and nothing else changes
 pub record Takes {A : Type 0} (lane count : ℕ) (a b : Log A) : Type 0 where
   pub more : List (List ℕ)
   pub counted : length more ≡ count
@@ -26,7 +26,7 @@ pub record Takes {A : Type 0} (lane count : ℕ) (a b : Log A) : Type 0 where
   pub given : given_of b ≡ slice_set (given_of a) lane (given_at a lane ++ more)
   pub ends : ends_of b ≡ ends_of a
 
--- the same, and now all that the end's submitter sent was taken, and the lane has ended
+-- all that was left of what the end's submitter sent is appended, and the lane has ended
 pub record Closes {A : Type 0} (end : End A) (count : ℕ) (a b : Log A) : Type 0 where
   pub more : List (List ℕ)
   pub counted : length more ≡ count
@@ -39,7 +39,7 @@ pub record Closes {A : Type 0} (end : End A) (count : ℕ) (a b : Log A) : Type 
   pub given : given_of b ≡ slice_set (given_of a) end.lane end.sent
   pub ends : ends_of b ≡ slice_set (ends_of a) end.lane (Some end.sent)
 
--- what was sent to each lane, as its end said
+-- the entries that were sent to each lane, as its end says
 abbrev pub sent_of : {A : Type 0} → Log A → List (List (List ℕ))
 sent_of log = map (λ l. unwrap_or l.sent []) log.lanes
 
@@ -47,7 +47,7 @@ sent_of log = map (λ l. unwrap_or l.sent []) log.lanes
 abbrev pub IsComplete : {A : Type 0} → Log A → Type 0
 IsComplete log = All (λ l. l.sent ≡ Some l.given) log.lanes
 
--- the smallest lane whose end was not taken in
+-- the lowest lane whose end wasn't taken in
 abbrev pub IsFirstOpen : {A : Type 0} → Log A → ℕ → Type 0
 IsFirstOpen log lane =
     (lane < length log.lanes) × (end_at log lane ≡ None) × ((k : ℕ) → k < lane → IsSome (end_at log k))

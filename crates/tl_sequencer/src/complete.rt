@@ -1,4 +1,4 @@
-//! A log after its close.
+//! A log that was closed, or not.
 ghost use Rattle.std.specs.Prelude.{◌≡◌, ◌≤◌, ◌==◌, length, count_by, slice_get, option_map, IfSome, MatchOption};
 ghost use Rattle.tl_sequencer.specs.Log.{entries_of};
 ghost use Rattle.tl_sequencer.specs.Merge.{of_lane};
@@ -9,7 +9,7 @@ use crate::sequencer::Sequencer;
 use std::alloc::Allocator;
 use std::marker::Model;
 
-/// A log that was closed: each submitter's entries once, in the order in which they were sent.
+/// A closed log: each submitter's entries once, in the order in which they were sent.
 #[derive(Drop)]
 pub struct Complete<E: Allocator, A: Allocator> {
     log: Sequencer<E, A>,
@@ -27,12 +27,12 @@ impl<E: Allocator, A: Allocator> Model for Complete<E, A> {
     ghost invariant = { λ c. IsComplete c.log };
 }
 
-/// A log that was not closed.
+/// A log that couldn't be closed.
 #[derive(Drop)]
 pub struct Incomplete<E: Allocator, A: Allocator> {
     /// The log, as it was.
     pub sequencer: Sequencer<E, A>,
-    /// The smallest lane that has not ended.
+    /// The lowest lane that hasn't ended.
     pub lane: u32,
 }
 
@@ -44,28 +44,29 @@ impl<E: Allocator, A: Allocator> Complete<E, A> {
         Complete { log }
     }
 
-    /// The number of entries.
+    /// Returns the number of entries.
     pub fn len(&self) -> u64
         ensures { result ≡ length (entries_of self.now) }
     {
         self.log.len()
     }
 
-    /// The entry at a place.
+    /// Returns the entry at this index.
     pub fn entry(&self, place: u64) -> Option<&[u8]>
         ensures { option_map (λ e. e.now) result ≡ slice_get (entries_of self.now) place }
     {
         self.log.entry(place)
     }
 
-    /// The lane of the entry at a place. `None` at the entries that the log began with, and past the end.
+    /// Returns the lane of the entry at this index, or `None` for an entry that the log began with, and past the end.
     pub fn who(&self, place: u64) -> Option<u32>
         ensures { result ≡ who_at self.now place }
     {
         self.log.who(place)
     }
 
-    /// The place of a lane's entry of this number, as its submitter counts, from 0. `None` where none was sent.
+    /// Returns the index of a lane's entry with this number, as its submitter counts, from 0. Returns `None` if no
+    /// such entry was sent.
     pub fn place_of(&self, lane: u32, number: u64) -> Option<u64>
         ensures place { MatchOption result
             (count_by (λ w. w == lane) self.now.who ≤ number) (IsPlaceOf self.now lane number) }

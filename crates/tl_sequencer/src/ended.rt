@@ -1,4 +1,4 @@
-//! What is left of a lane's submitter after its close.
+//! The end of a lane, after its submitter was closed.
 ghost use Rattle.std.specs.Prelude.{◌≡◌, map, vec_items};
 ghost use Rattle.rtrb.specs.Ring.{all_sent};
 ghost use Rattle.tl_sequencer.specs.Rings.{ring_of};
@@ -8,7 +8,7 @@ use rtrb::Finished;
 use std::alloc::Allocator;
 use std::marker::Model;
 
-/// All that one submitter sent, once it can send no more. The sequencer's `end` takes it in.
+/// All that one submitter sent, once it can send no more. `Sequencer::end` takes in what is left of it.
 #[derive(Drop)]
 pub struct Ended<E: Allocator, A: Allocator> {
     pub(crate) entries: Finished<Vec<u8, E>, A, ShortEntries>,
@@ -38,7 +38,7 @@ impl<E: Allocator, A: Allocator> Ended<E, A> {
         Ended { entries, lane }
     }
 
-    /// The lane's number.
+    /// Returns the lane's number.
     pub fn lane(&self) -> u32
         ensures { result ≡ self.now.lane }
     {

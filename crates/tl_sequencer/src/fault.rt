@@ -1,7 +1,7 @@
-//! The reasons for which a call is refused. Of those that apply, a call answers the first.
+//! The reasons why a call fails. If several apply, a call reports the first.
 use thiserror::Error;
 
-/// Why a log was not opened.
+/// The reasons why a log can't be opened.
 #[derive(Clone, Copy, Debug, PartialEq, Eq, Error)]
 pub enum OpenFault {
     /// The number of lanes is not from 1 to 64.
@@ -13,26 +13,26 @@ pub enum OpenFault {
     /// The limit is not from 1 to 4,294,967,295 entries.
     #[error("the limit is not from 1 to 4,294,967,295 entries")]
     Limit,
-    /// A growth was refused.
+    /// Allocation failed.
     #[error("out of memory")]
     OutOfMemory,
 }
 
-/// Why an entry was not sent.
+/// The reasons why an entry isn't sent.
 #[derive(Clone, Copy, Debug, PartialEq, Eq, Error)]
 pub enum Why {
     /// The entry has more than 65,535 bytes.
     #[error("the entry has more than 65,535 bytes")]
     TooLong,
-    /// This submitter gave as many numbers as the log's limit.
+    /// This submitter has sent as many entries as the log's limit.
     #[error("this submitter gave all its numbers")]
     NumbersUsed,
-    /// The lane's ring is full, until the sequencer takes from it.
+    /// The lane's ring is full until the sequencer takes from it.
     #[error("the lane is full")]
     Full,
 }
 
-/// Why nothing was taken.
+/// The reasons why nothing is taken.
 #[derive(Clone, Copy, Debug, PartialEq, Eq, Error)]
 pub enum TakeFault {
     /// The log has no lane of this number.
@@ -41,7 +41,7 @@ pub enum TakeFault {
     /// The log has no room for what is to be taken.
     #[error("the log is full")]
     LogFull,
-    /// A growth was refused.
+    /// Allocation failed.
     #[error("out of memory")]
     OutOfMemory,
 }

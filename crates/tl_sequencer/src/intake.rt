@@ -1,4 +1,4 @@
-//! A log that grows from its lanes and is kept elsewhere.
+//! A log that grows from its lanes and is stored elsewhere.
 ghost use Rattle.std.specs.Prelude.{◌≡◌, ◌≤◌, ◌-◌, ◌++◌, [], vec_len, length, map, vec_items, None, IfOk, IfErr};
 ghost use Rattle.std.specs.List.{All};
 ghost use Rattle.tl_sequencer.specs.Log.{IsShort, IsEndOf, entries_of, rings_of};
@@ -17,8 +17,8 @@ use http_server::Log;
 use std::alloc::Allocator;
 use std::marker::Model;
 
-/// A log that grows from its lanes and is kept elsewhere. Memory has what was taken and waits to be put there; what was
-/// drained is let go.
+/// A log that grows from its lanes and is stored elsewhere. Memory has the entries that were taken and aren't drained
+/// yet.
 #[derive(Drop)]
 pub struct Intake<E: Allocator, A: Allocator> {
     waiting: Vec<Vec<u8, E>, A>,
@@ -26,7 +26,7 @@ pub struct Intake<E: Allocator, A: Allocator> {
     len: u64,
     limit: u64,
     lanes: Vec<Lane<E, A>, A>,
-    // Each entry that was taken, with its lane. It takes no memory.
+    // Each entry that was taken, with its lane. It takes no memory: only contracts see it.
     history: Log<Vec<u8, E>, u32>,
 }
 
@@ -42,9 +42,9 @@ impl<E: Allocator, A: Allocator> Model for Intake<E, A> {
 }
 
 impl<E: Allocator, A: Allocator> Intake<E, A> {
-    /// Opens an intake for a log that has `before` entries already, which are kept elsewhere, and may have `limit` in
-    /// all. The bounds are those of `open`: 1 to 64 lanes, rings of 1 to 65,536 entries, a limit of 1 to 4,294,967,295.
-    /// It gives one submitter for each lane, in the order of the lanes.
+    /// Opens an intake for a log that is stored elsewhere, has `before` entries already and may have `limit` in all.
+    /// The bounds are those of `open`: 1 to 64 lanes, rings of 1 to 65,536 entries, a limit of 1 to 4,294,967,295. It
+    /// returns one submitter for each lane, in the order of the lanes.
     pub fn open(
         alloc: A,
         before: u64,
@@ -92,7 +92,7 @@ impl<E: Allocator, A: Allocator> Intake<E, A> {
         }
     }
 
-    /// The number of entries that were taken in all.
+    /// Returns the number of entries that were taken in all.
     pub fn len(&self) -> u64
         ensures len { result ≡ length (entries_of self.now.log) }
         ensures kept { IsLog self.now.log }
@@ -102,8 +102,8 @@ impl<E: Allocator, A: Allocator> Intake<E, A> {
         self.len
     }
 
-    /// Takes up to `max` entries of a lane, in order, behind those that wait, and answers how many: 0 where the lane has
-    /// ended. Where it is refused nothing is taken. It doesn't wait.
+    /// Takes up to `max` entries of a lane, in order, behind those that wait. Returns how many, which is 0 if the
+    /// lane has ended. If it fails, nothing is taken. It doesn't wait.
     pub fn take(&mut self, lane: u32, max: u64) -> Result<u64, TakeFault>
         ensures rings { rings_of self.new.log ≡ rings_of self.old.log }
         ensures most { IfOk result (λ n. n ≤ max) }
@@ -129,9 +129,9 @@ impl<E: Allocator, A: Allocator> Intake<E, A> {
         Ok(n)
     }
 
-    /// Takes all that is left of the lane of an end, which is of a submitter of this log, and answers how many entries
-    /// that is. The lane has then ended. Where it is refused nothing is taken, and the end comes back as it was: with
-    /// `LogFull` where the rest doesn't fit, or with `OutOfMemory`. It doesn't wait.
+    /// Takes all that is left of the lane of an end, which must be of a submitter of this log, and returns how many
+    /// entries that is. The lane has then ended. If it fails, nothing is taken, and the fault returns the end as it
+    /// was: with `LogFull` if the rest doesn't fit, or with `OutOfMemory`. It doesn't wait.
     pub fn end(&mut self, mut ended: Ended<E, A>) -> Result<u64, EndRefused<E, A>>
         requires { IsEndOf ended self.old.log }
         ensures rings { rings_of self.new.log ≡ rings_of self.old.log }
@@ -155,7 +155,8 @@ impl<E: Allocator, A: Allocator> Intake<E, A> {
         }
     }
 
-    /// The entries that were taken and wait to be kept elsewhere, in order. None has more than 65,535 bytes.
+    /// Returns the entries that were taken and aren't stored elsewhere yet, in order. None has more than 65,535
+    /// bytes.
     pub fn waiting(&self) -> &[Vec<u8, E>]
         ensures waiting { map vec_items result.now ≡ self.now.waiting }
         ensures short { All IsShort self.now.waiting }
@@ -164,7 +165,7 @@ impl<E: Allocator, A: Allocator> Intake<E, A> {
         &self.waiting
     }
 
-    /// Lets go of what waits, since it is kept elsewhere now.
+    /// Drops the entries that wait, which the caller has stored elsewhere.
     pub fn drain(&mut self)
         ensures log { self.new.log ≡ self.old.log }
         ensures drained { self.new.drained ≡ self.old.log.taken }
@@ -173,8 +174,8 @@ impl<E: Allocator, A: Allocator> Intake<E, A> {
         self.waiting.clear();
     }
 
-    /// The number of entries that were taken in all, where the end of each lane was taken in: they are then a merge of
-    /// what was sent. Else the smallest lane that has not ended.
+    /// Returns the number of entries that were taken in all, if the end of each lane was taken in: they are then a
+    /// merge of what was sent. Otherwise fails with the lowest lane that hasn't ended.
     pub fn completed(&self) -> Result<u64, u32>
         ensures complete { IfOk result
             (λ n. IsComplete self.now.log × (n ≡ length (entries_of self.now.log))) }

@@ -1,4 +1,4 @@
-//! The end of a lane that the sequencer has.
+//! The sequencer's end of a lane.
 ghost use Rattle.std.specs.Prelude.{◌≡◌, ◌+◌, ◌≤◌, ◌<◌, ◌++◌, ◌↔◌, [], length, vec_len, vec_capacity, None, IsTrue, IsSome, MatchOption, IfOk, IfErr, OnErr};
 ghost use Rattle.std.specs.List.{All, range_with_len};
 ghost use Rattle.rtrb.specs.Ring.{known_items, received};
@@ -13,7 +13,7 @@ use rtrb::{Consumer, Protocol};
 use std::alloc::{AllocError, Allocator};
 use std::marker::Model;
 
-// No entry has more bytes than this.
+// The longest entry, in bytes.
 pub(crate) const LONGEST: usize = 65_535;
 
 // The rule of each ring: no entry is too long.
@@ -46,7 +46,7 @@ impl<E: Allocator, A: Allocator> Model for Lane<E, A> {
         } };
 }
 
-// Pops so many entries to the end of a log, and keeps their places.
+// Pops this many entries, appends them to a log, and keeps their places.
 fn pour<E: Allocator, A: Allocator>(
     ring: &mut Consumer<Vec<u8, E>, A, ShortEntries>,
     count: usize,
@@ -71,7 +71,7 @@ fn pour<E: Allocator, A: Allocator>(
     }
 }
 
-// Pops so many entries to the end of those that wait, and notes each in a history.
+// Pops this many entries, appends them to those that wait, and adds each to a history.
 fn pour_noted<E: Allocator, A: Allocator>(
     ring: &mut Consumer<Vec<u8, E>, A, ShortEntries>,
     count: usize,
@@ -94,7 +94,7 @@ fn pour_noted<E: Allocator, A: Allocator>(
     }
 }
 
-// The smallest lane that has not ended.
+// Returns the lowest lane that hasn't ended.
 pub(crate) fn first_open<E: Allocator, A: Allocator>(lanes: &[Lane<E, A>]) -> Option<u32>
     requires { length lanes.now ≤ 64 }
     ensures { MatchOption result
@@ -125,7 +125,7 @@ impl<E: Allocator, A: Allocator> Lane<E, A> {
         self.ended
     }
 
-    // Gives up to `most` entries to a log, or none where the lane has ended.
+    // Appends up to `most` entries to a log, or none if the lane has ended.
     pub(crate) fn take(
         &mut self,
         lane: u32,
@@ -164,7 +164,7 @@ impl<E: Allocator, A: Allocator> Lane<E, A> {
         Ok(count)
     }
 
-    // Gives all that is left of what was sent, if there is room for it.
+    // Appends all that is left of what was sent, if there is room for it.
     pub(crate) fn end(
         &mut self,
         ended: &mut Ended<E, A>,
@@ -202,7 +202,7 @@ impl<E: Allocator, A: Allocator> Lane<E, A> {
         Ok(count as u64)
     }
 
-    // `take` to what waits, with each entry noted in a history.
+    // Takes as `take` does, appends to what waits, and adds each entry to a history.
     pub(crate) fn take_noted(
         &mut self,
         lane: u32,
@@ -231,7 +231,7 @@ impl<E: Allocator, A: Allocator> Lane<E, A> {
         Ok(count as u64)
     }
 
-    // `end` to what waits, with each entry noted in a history.
+    // Ends as `end` does, appends to what waits, and adds each entry to a history.
     pub(crate) fn end_noted(
         &mut self,
         ended: &mut Ended<E, A>,

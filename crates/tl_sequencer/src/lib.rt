@@ -1,27 +1,37 @@
-//! Entries of many submitters, put into one log. Each submitter has a lane, a ring of its own, and no call waits or
-//! takes a lock.
+//! One log from the entries of many submitters.
 //!
-//! ```
-//! let (mut log, mut submitters) = open(alloc, 1, 16, 1000)?;
+//! A log gives each entry an index, and entries come from many threads at once. Here each submitter has a lane, which
+//! is a ring without locks, and one thread takes entries from the lanes. No call waits: a full ring is reported, and
+//! so is an empty one. However they are taken, each submitter's entries are in the log once, and in the order in
+//! which it sent them.
+//!
+//! A `Sequencer` keeps the whole log in memory. A lane ends when its `Submitter` is closed and the `Ended` that this
+//! returns is taken in. Once all lanes have ended, the log can be closed, and has all that was sent:
+//!
+//! ```rust
+//! let (mut log, mut submitters) = open(alloc, 1, 16, 1000)?; // one lane, a ring of 16, at most 1,000 entries
 //! let mut submitter = submitters.pop().unwrap();
-//! assert_eq!(submitter.submit(cat), Ok(0));
-//! assert_eq!(submitter.submit(dog), Ok(1));
-//! assert_eq!(log.take(0, 1), Ok(1)); // one entry of lane 0 is in the log
-//! log.end(submitter.close().unwrap())?; // and now the rest
-//! assert_eq!(log.close()?.len(), 2);
+//! assert!(rt; submitter.submit(cat).is_ok()); // number 0 of this submitter
+//! assert!(rt; submitter.submit(dog).is_ok()); // number 1
+//! assert_eq!(rt; log.take(0, 1), Ok(1)); // one entry of lane 0 is in the log
+//! assert!(rt; log.end(submitter.close().unwrap()).is_ok()); // and now the rest
+//! if let Ok(complete) = log.close() {
+//!     assert_eq!(rt; complete.len(), 2);
+//! }
 //! ```
 //!
-//! A log whose entries are on a disk needs no list in memory: what an intake takes waits until it is there.
+//! An `Intake` is for a log that is stored elsewhere, such as on a disk. It keeps only the entries that aren't stored
+//! yet:
 //!
-//! ```
+//! ```rust
 //! let (mut intake, mut submitters) = Intake::open(alloc, 700, 1, 16, 1000)?; // 700 entries are on the disk
 //! let mut submitter = submitters.pop().unwrap();
-//! assert_eq!(submitter.submit(cat), Ok(0));
-//! assert_eq!(intake.take(0, 16), Ok(1)); // it waits
+//! assert!(rt; submitter.submit(cat).is_ok());
+//! assert_eq!(rt; intake.take(0, 16), Ok(1)); // it waits
 //! put_on_disk(intake.waiting())?;
-//! intake.drain(); // and is let go
-//! intake.end(submitter.close().unwrap())?;
-//! assert_eq!(intake.completed(), Ok(1)); // one entry was taken in all
+//! intake.drain(); // and is dropped here
+//! assert!(rt; intake.end(submitter.close().unwrap()).is_ok());
+//! assert_eq!(rt; intake.completed(), Ok(1)); // one entry was taken in all
 //! ```
 #![tactic(auto)]
 

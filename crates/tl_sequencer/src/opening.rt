@@ -1,4 +1,4 @@
-//! Opens a log with its lanes.
+//! Opening a log with its lanes.
 ghost use Rattle.std.specs.Prelude.{◌≡◌, ◌≤◌, [], map, vec_items, vec_len, replicate, IfOk, IfErr, MatchOption};
 ghost use Rattle.std.specs.List.{All};
 ghost use Rattle.tl_sequencer.specs.Log.{IsShort};
@@ -19,16 +19,16 @@ const MOST_CAPACITY: usize = 65_536;
 
 const MOST_ENTRIES: u64 = 4_294_967_295;
 
-/// The entries that a log was to begin with, and why it was not opened.
+/// The entries that a log was to begin with, and why it wasn't opened.
 #[derive(Drop)]
 pub struct BaseBack<E: Allocator, A: Allocator> {
-    /// The entries, as they were handed in.
+    /// The entries, as they were passed.
     pub base: Vec<Vec<u8, E>, A>,
     /// The first reason that applies.
     pub why: OpenFault,
 }
 
-// The two ends of a new lane.
+// Returns the two ends of a new lane.
 fn new_lane<E: Allocator, A: Allocator + Copy>(
     alloc: A,
     lane: u32,
@@ -41,7 +41,7 @@ fn new_lane<E: Allocator, A: Allocator + Copy>(
     Ok((Lane::new(consumer), Submitter::new(producer, lane, limit)))
 }
 
-// So many new lanes.
+// Returns this many new lanes.
 pub(crate) fn new_lanes<E: Allocator, A: Allocator + Copy>(
     alloc: A,
     count: u32,
@@ -60,7 +60,7 @@ pub(crate) fn new_lanes<E: Allocator, A: Allocator + Copy>(
     Ok((lanes, submitters))
 }
 
-// For each of so many lanes, that no entry was taken yet.
+// Returns an empty list of places for each lane.
 fn no_places<A: Allocator + Copy>(alloc: A, count: usize) -> Result<Vec<Vec<u64, A>, A>, AllocError>
     ensures { IfOk result (λ places. map vec_items places.items ≡ replicate count []) }
 {
@@ -71,7 +71,7 @@ fn no_places<A: Allocator + Copy>(alloc: A, count: usize) -> Result<Vec<Vec<u64,
     Ok(places)
 }
 
-// The first of the numbers that is outside its bounds.
+// Returns the fault for the first number that is outside its bounds.
 pub(crate) fn fault_of(lanes: u32, capacity: usize, limit: u64) -> Option<OpenFault>
     ensures { MatchOption result (MayOpen lanes capacity limit) (OpenRefuses lanes capacity limit) }
 {
@@ -88,7 +88,7 @@ pub(crate) fn fault_of(lanes: u32, capacity: usize, limit: u64) -> Option<OpenFa
 }
 
 /// Opens an empty log of at most `limit` entries (1 to 4,294,967,295), with 1 to 64 lanes whose rings have room for
-/// `capacity` entries each (1 to 65,536). It gives one submitter for each lane, in the order of the lanes.
+/// `capacity` entries each (1 to 65,536). It returns one submitter for each lane, in the order of the lanes.
 pub fn open<E: Allocator, A: Allocator + Copy>(
     alloc: A,
     lanes: u32,
@@ -105,8 +105,8 @@ pub fn open<E: Allocator, A: Allocator + Copy>(
     }
 }
 
-/// `open` with a log that begins with these entries: at most `limit`, none of more than 65,535 bytes. They are of no
-/// lane, and count towards the limit. Where the log isn't opened they come back as they were.
+/// Opens a log that begins with these entries: at most `limit`, none longer than 65,535 bytes. They are of no lane,
+/// and count towards the limit. All else is as in `open`. If it fails, the fault returns the entries as they were.
 pub fn open_from<E: Allocator, A: Allocator + Copy>(
     alloc: A,
     base: Vec<Vec<u8, E>, A>,

@@ -1,4 +1,4 @@
-//! The log that grows from the lanes.
+//! A log that grows from its lanes.
 ghost use Rattle.std.specs.Prelude.{◌≡◌, ◌≤◌, ◌<◌, ◌==◌, [], vec_len, map, vec_items, length, replicate, count_by, slice_get, option_map, None, IsSome, MatchOption, IfOk, IfErr, IfSome};
 ghost use Rattle.std.specs.List.{All};
 ghost use Rattle.tl_sequencer.specs.Log.{IsShort, IsEndOf, entries_of, rings_of};
@@ -14,13 +14,13 @@ use crate::lane::{Lane, first_open};
 use std::alloc::Allocator;
 use std::marker::Model;
 
-/// A log, and the lanes from which it grows. Places in it are numbered from 0.
+/// A log, and the lanes from which it grows. Its entries have indexes from 0.
 #[derive(Drop)]
 pub struct Sequencer<E: Allocator, A: Allocator> {
     base: Vec<Vec<u8, E>, A>,
     taken: Vec<Vec<u8, E>, A>,
     who: Vec<u32, A>,
-    // Of each lane, where its entries stand in `taken`.
+    // For each lane, the places of its entries in `taken`.
     places: Vec<Vec<u64, A>, A>,
     limit: u64,
     lanes: Vec<Lane<E, A>, A>,
@@ -39,10 +39,10 @@ impl<E: Allocator, A: Allocator> Model for Sequencer<E, A> {
         IsKept s.base.items s.taken.items s.who.items s.places.items s.limit s.lanes.items };
 }
 
-/// An end that was not taken in, and why.
+/// An end that wasn't taken in, and why.
 #[derive(Drop)]
 pub struct EndRefused<E: Allocator, A: Allocator> {
-    /// The end, as it was handed in.
+    /// The end, as it was passed.
     pub ended: Ended<E, A>,
     /// The first reason that applies.
     pub why: TakeFault,
@@ -81,7 +81,7 @@ impl<E: Allocator, A: Allocator> Sequencer<E, A> {
         }
     }
 
-    /// The number of entries.
+    /// Returns the number of entries.
     pub fn len(&self) -> u64
         ensures len { result ≡ length (entries_of self.now) }
         ensures kept { IsLog self.now }
@@ -89,8 +89,8 @@ impl<E: Allocator, A: Allocator> Sequencer<E, A> {
         self.base.len() as u64 + self.taken.len() as u64
     }
 
-    /// Takes up to `max` entries of a lane, in order, to the end of the log, and answers how many: 0 where the lane has
-    /// ended. Where it is refused nothing is taken. It doesn't wait.
+    /// Takes up to `max` entries of a lane, in order, and appends them to the log. Returns how many, which is 0 if
+    /// the lane has ended. If it fails, nothing is taken. It doesn't wait.
     pub fn take(&mut self, lane: u32, max: u64) -> Result<u64, TakeFault>
         ensures rings { rings_of self.new ≡ rings_of self.old }
         ensures most { IfOk result (λ n. n ≤ max) }
@@ -115,9 +115,9 @@ impl<E: Allocator, A: Allocator> Sequencer<E, A> {
         }
     }
 
-    /// Takes all that is left of the lane of an end, which is of a submitter of this log, and answers how many entries
-    /// that is. The lane has then ended. Where it is refused nothing is taken, and the end comes back as it was: with
-    /// `LogFull` where the rest doesn't fit, or with `OutOfMemory`. It doesn't wait.
+    /// Takes all that is left of the lane of an end, which must be of a submitter of this log, and returns how many
+    /// entries that is. The lane has then ended. If it fails, nothing is taken, and the fault returns the end as it
+    /// was: with `LogFull` if the rest doesn't fit, or with `OutOfMemory`. It doesn't wait.
     pub fn end(&mut self, mut ended: Ended<E, A>) -> Result<u64, EndRefused<E, A>>
         requires { IsEndOf ended self.old }
         ensures rings { rings_of self.new ≡ rings_of self.old }
@@ -144,7 +144,7 @@ impl<E: Allocator, A: Allocator> Sequencer<E, A> {
         }
     }
 
-    /// The entry at a place.
+    /// Returns the entry at this index.
     pub fn entry(&self, place: u64) -> Option<&[u8]>
         ensures { option_map (λ e. e.now) result ≡ slice_get (entries_of self.now) place }
     {
@@ -158,7 +158,7 @@ impl<E: Allocator, A: Allocator> Sequencer<E, A> {
         Some(entry.as_slice())
     }
 
-    /// The lane of the entry at a place. `None` at the entries that the log began with, and past the end.
+    /// Returns the lane of the entry at this index, or `None` for an entry that the log began with, and past the end.
     pub fn who(&self, place: u64) -> Option<u32>
         ensures { result ≡ who_at self.now place }
     {
@@ -170,7 +170,8 @@ impl<E: Allocator, A: Allocator> Sequencer<E, A> {
         self.who.get(place - base).copied()
     }
 
-    /// The place of a lane's entry of this number, as its submitter counts, from 0. `None` where it was not taken yet.
+    /// Returns the index of a lane's entry with this number, as its submitter counts, from 0. Returns `None` if that
+    /// entry isn't taken yet.
     pub fn place_of(&self, lane: u32, number: u64) -> Option<u64>
         ensures place { MatchOption result
             (count_by (λ w. w == lane) self.now.who ≤ number) (IsPlaceOf self.now lane number) }
@@ -186,7 +187,7 @@ impl<E: Allocator, A: Allocator> Sequencer<E, A> {
         Some(self.base.len() as u64 + *place)
     }
 
-    // The smallest lane that was not ended.
+    // Returns the lowest lane that hasn't ended.
     fn open_lane(&self) -> Option<u32>
         ensures first { MatchOption result
             (All (λ l. IsSome l.sent) self.now.lanes) (IsFirstOpen self.now) }
@@ -195,8 +196,9 @@ impl<E: Allocator, A: Allocator> Sequencer<E, A> {
         first_open(&self.lanes)
     }
 
-    /// Closes the log. Where the end of each lane was taken in, the log is complete: the entries that it began with,
-    /// and after them a merge of what was sent. Else the log comes back, with the smallest lane that has not ended.
+    /// Closes the log. If the end of each lane was taken in, the log is complete: it has the entries that it began
+    /// with, and after them a merge of what was sent. Otherwise the fault returns the log, with the lowest lane that
+    /// hasn't ended.
     pub fn close(self) -> Result<Complete<E, A>, Incomplete<E, A>>
         ensures complete { IfOk result (λ c. (c ≡ self) × IsComplete c) }
         ensures merge { IfOk result (λ c. IsMerge (entries_of c) c.base (sent_of c)) }

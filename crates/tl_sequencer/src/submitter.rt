@@ -1,4 +1,4 @@
-//! The end of a lane that submits.
+//! The submitter's end of a lane.
 ghost use Rattle.std.specs.Prelude.{◌≡◌, ◌+◌, ◌≤◌, ◌<◌, ◌++◌, [], ◌∷◌, vec_len, length, IfOk, IfErr, IfSome};
 ghost use Rattle.rtrb.specs.Ring.{sent, known_free};
 ghost use Rattle.tl_sequencer.specs.Rings.{ring_of};
@@ -11,7 +11,7 @@ use rtrb::{Producer, PushError};
 use std::alloc::Allocator;
 use std::marker::Model;
 
-/// Submits entries to one lane of a log. It can move to a thread of its own.
+/// Submits entries to one lane of a log. It can be moved to a thread of its own.
 #[derive(Drop)]
 pub struct Submitter<E: Allocator, A: Allocator> {
     entries: Producer<Vec<u8, E>, A, ShortEntries>,
@@ -39,10 +39,10 @@ impl<E: Allocator, A: Allocator> Model for Submitter<E, A> {
     ghost invariant = { λ s. s.given ≡ length (sent s.entries) };
 }
 
-/// An entry that was not sent, and why.
+/// An entry that wasn't sent, and why.
 #[derive(Drop)]
 pub struct Refused<E: Allocator> {
-    /// The entry, as it was handed in.
+    /// The entry, as it was passed.
     pub entry: Vec<u8, E>,
     /// The first reason that applies.
     pub why: Why,
@@ -71,8 +71,8 @@ impl<E: Allocator, A: Allocator> Submitter<E, A> {
         }
     }
 
-    /// Sends an entry of at most 65,535 bytes, and answers its number in this submitter, from 0.
-    /// An entry that is refused comes back as it was, and nothing was sent. It takes no memory and doesn't wait.
+    /// Sends an entry of at most 65,535 bytes, and returns its number in this submitter, from 0. If it fails, nothing
+    /// is sent, and the fault returns the entry as it was. It allocates nothing and doesn't wait.
     pub fn submit(&mut self, entry: Vec<u8, E>) -> Result<u64, Refused<E>>
         ensures lane { (self.new.ring ≡ self.old.ring)
             × (self.new.lane ≡ self.old.lane) × (self.new.limit ≡ self.old.limit) }
@@ -101,8 +101,8 @@ impl<E: Allocator, A: Allocator> Submitter<E, A> {
         Ok(number)
     }
 
-    /// Ends the lane, after which nothing more is sent. `None` where the sequencer is gone: the lane can then not be
-    /// ended. It takes no memory and doesn't wait.
+    /// Ends the lane: nothing more can be sent. Returns `None` if the sequencer was dropped; the lane can't be ended
+    /// then. It allocates nothing and doesn't wait.
     pub fn close(self) -> Option<Ended<E, A>>
         ensures lane { IfSome result (λ end. (end.ring ≡ self.ring) × (end.lane ≡ self.lane)) }
         ensures sent { IfSome result (λ end. end.sent ≡ self.sent) }
@@ -114,7 +114,7 @@ impl<E: Allocator, A: Allocator> Submitter<E, A> {
         Some(Ended::new(entries, lane))
     }
 
-    /// The lane's number.
+    /// Returns the lane's number.
     pub fn lane(&self) -> u32
         ensures { result ≡ self.now.lane }
     {

@@ -68,7 +68,7 @@ adds-next f H size middle xs i x before between now low x_is middle_is done next
     subst (λ (list : List Bytes). AddsEntries H size list before now) (sym (one_more f xs i (i + 1) x (omega arith) low x_is))
     (adds-then H size middle (map f (take i xs)) (f x ∷ []) before between now done (omega (arith, middle_is, taken f xs i (omega (arith, low)))) next)
 
--- ---- the first entries of a list, where others are left
+-- ---- the first entries of a list, if others are left
 
 pub record AddsFirst {X : Type 0} (f : X → Bytes) (H : Digest) (size : ℕ) (xs left : List X) (before now : List Bytes) : Type 0 where
   pub done : List Bytes

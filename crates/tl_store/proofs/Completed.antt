@@ -83,7 +83,7 @@ ending_is s k some is =
 
 -- ---- one subtree more
 
--- where the left part of a subtree that ends with the last of `size` entries lies
+-- the place of the left part of a subtree that ends with the last of `size` entries
 pub record HasLeftPart (size level : ℕ) : Type 0 where
   pub two : 2 ≤ size / 2 ^ level
   pub start : (size / 2 ^ level - 2) * 2 ^ level + 2 * 2 ^ level ≡ size
@@ -189,8 +189,8 @@ levels_more f level =
     ∙ ap (map f) (range-more 0 (level + 1) ∙ ap (λ (x : ℕ). range_with_len 0 (level + 1) ++ x ∷ []) start)
     ∙ map-append f (range_with_len 0 (level + 1)) ((level + 1) ∷ [])
 
--- hashes were added one after another: from those of the subtrees up to the level `low`, of which `first` is the last, on
--- to those up to `level`, of which `hash` is the last
+-- hashes were added one after another: from those of the subtrees up to the level `low`, of which `first` is the
+-- last, on to those up to `level`, of which `hash` is the last
 pub record ArePushed (H : Digest) (size low : ℕ) (first : List ℕ) (level : ℕ) (hash : List ℕ) (start now : List (List ℕ)) : Type 0 where
   pub count : length now + low ≡ length start + level
   pub hashes : (entries : List (List ℕ)) (entry : List ℕ) → length entries + 1 ≡ size → IsBegun H size entries entry low start first → IsBegun H size entries entry level now hash

@@ -21,8 +21,8 @@ use Rattle.tl_store.proofs.Readable.{stored_count-mono, index-in_count, count-in
 
 -- ---- collecting the numbers
 
--- `indexes` are those of the subtrees that cover the entries from `start` up to `covered` of those up to `size`, so far
--- as all are to be found; `covered` is a multiple of a power of two that is no less than what is left
+-- `indexes` are those of the subtrees that cover the entries from `start` up to `covered` of those up to `size`, so
+-- far as all are to be found; `covered` is a multiple of a power of two that is no less than what is left
 pub record IsCovered (start size covered : ℕ) (indexes : List ℕ) : Type 0 where
   pub within : covered ≤ size
   pub aligned : IsAligned covered size
@@ -223,7 +223,7 @@ covering-below start end [] covering = All-nil (λ (index : ℕ). index < stored
 covering-below start end _ (more s e level place rest at fits largest covering) =
     All-cons (λ (index : ℕ). index < stored_count end) (stored_index level place) rest (index-in_count end level place (omega (arith, at, fits))) (covering-below (start + 2 ^ level) end rest covering)
 
--- and where all are below the count of n entries, these are among them
+-- and if all are below the count of n entries, these are among them
 pub covering-within : (start end : ℕ) (indexes : List ℕ) (n : ℕ) → AreCovering start end indexes → start < end → All (λ index. index < stored_count n) indexes → end ≤ n
 covering-within start end [] n (none s e same) some below = absurd (omega (arith, same, some))
 covering-within start end _ n (more s e level place rest at fits largest covering) some below =

@@ -23,7 +23,7 @@ quad_hashes : (H : Digest) (a b c d : Bytes)
 unfolding stored_hashes stored_for levels_ending
 quad_hashes H a b c d = refl
 
--- ---- where they stand in a longer list
+-- ---- their place in a longer list
 
 sub_is : (H : Digest) (all entries last : List Bytes) (size level : ℕ) → all ≡ entries ++ last → length last ≡ 2 ^ level → size ≡ length all
     → subtree_hash H all size level ≡ tree_hash H last

@@ -17,7 +17,7 @@ stored_count-mono n m less =
     let sum : m ≡ n + (m - n) = omega (arith, less) in
     omega (arith, ap stored_count sum, stored_count-more n (m - n))
 
--- a subtree's number is below the count where its entries are there
+-- a subtree's number is below the count if its entries are there
 pub index-in_count : (size level place : ℕ) → (place + 1) * 2 ^ level ≤ size → stored_index level place < stored_count size
 index-in_count size level place within =
     let entries : List (List ℕ) = replicate size [] in

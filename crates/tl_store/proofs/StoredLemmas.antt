@@ -1,4 +1,4 @@
--- Stored hashes: how many, what an entry adds, and where each is.
+-- Stored hashes: their number, what an entry adds, and the place of each.
 use Rattle.std.proofs.Common.{◌≡◌, ℕ, zero, suc, ◌+◌, ◌-◌, ◌*◌, ◌/◌, ◌%◌, ◌^◌, ◌<◌, ◌≤◌, inl, inr, Bool, true, cond, ◌==◌, List, [], ◌∷◌, ◌++◌, length, take, drop, map, filter, sum_by, count_by, nat_le, get_or, refl, sym, ap, subst, ◌∙◌, arith}
 use Rattle.std.specs.List.{range_with_len}
 use Rattle.std.proofs.Math.Nat.{mod-lt}
@@ -14,7 +14,7 @@ use Rattle.tl_store.specs.Inner.Subtrees.{levels, count_at, subtree_hash}
 
 -- ---- the places of a level
 
--- 1 where a test holds
+-- 1 if a test holds
 abbrev one_if : Bool → ℕ
 one_if test = cond test 1 0
 
@@ -53,7 +53,7 @@ count-is n = sum_at n (levels n)
 
 -- ---- division, one step on
 
--- 1 where the divisor divides the number
+-- 1 if the divisor divides the number
 abbrev step_of : ℕ → ℕ → ℕ
 step_of n d = cond (n % d == 0) 1 0
 
@@ -152,7 +152,7 @@ entry_appends_its_subtrees H entries entry =
 
 -- ---- the place of a subtree
 
--- where a test holds of the first numbers of a range, they are the first that it keeps
+-- if a test holds of the first numbers of a range, they are the first that it keeps
 filter-range : (p : ℕ → Bool) (a n i : ℕ) → i < n → ((j : ℕ) → j ≤ i → p (a + j) ≡ true)
     → (i < length (filter p (range_with_len a n))) × (get_or (filter p (range_with_len a n)) i 0 ≡ a + i)
 filter-range p a zero i within all = absurd (omega (arith, within))

@@ -1,14 +1,14 @@
--- What a reader of stored hashes answers (HashReader of Go's golang.org/x/mod/sumdb/tlog).
+-- What a reader of stored hashes returns (HashReader of Go's golang.org/x/mod/sumdb/tlog).
 use Rattle.std.specs.Prelude.{ℕ, ◌<◌, ◌≤◌, ◌^◌, List, length, All, Any, nat_le, if◌then◌else◌}
 use Rattle.tl_store.specs.Stored.{stored_count}
 use Rattle.tl_store.specs.declared.reader.ReadFault.{ReadFault}
 use Rattle.tl_store.specs.declared.reader.ReadFault.TheVariants.{OutOfRange, Source, OutOfMemory, BadTile}
 
--- the number of entries that a reader of this size answers for: none above 2 ^ 62
+-- the number of entries of a reader of this size: none if the size is above 2 ^ 62
 abbrev pub readable_size : ℕ → ℕ
 readable_size size = if nat_le size (2 ^ 62) then size else 0
 
--- the number of stored hashes that it has
+-- the number of its stored hashes
 abbrev pub readable_count : ℕ → ℕ
 readable_count size = stored_count (readable_size size)
 
@@ -16,7 +16,7 @@ readable_count size = stored_count (readable_size size)
 abbrev pub AreReadable : ℕ → List ℕ → Type 0
 AreReadable size indexes = All (λ index. index < readable_count size) indexes
 
--- when a reader of this size gives this fault: out of range first, and else only where some hash is asked for.
+-- when a reader of this size fails with this fault: out of range first, and otherwise only if some hash is asked for;
 -- `may_fail` says which faults its source may give
 abbrev pub GivesFault : ℕ → (ReadFault → Type 0) → List ℕ → ReadFault → Type 0
 GivesFault size may_fail indexes OutOfRange = Any (λ index. readable_count size ≤ index) indexes

@@ -1,4 +1,4 @@
-//! The tree's hash from stored hashes.
+//! Tree hashes from stored hashes.
 
 ghost use Rattle.std.specs.Prelude.{◌≡◌, ◌≤◌, List, [], take, Ok, IfOk, IfErr, OnOk};
 ghost use Rattle.tl_hash.specs.Bytes.{Bytes};
@@ -11,10 +11,10 @@ use crate::segment::{cover_hash, segment_indexes};
 use std::alloc::Allocator;
 use tl_hash::{Hash, TreeHash, empty_hash};
 
-/// The tree hash of the first `size` entries (RFC 6962, section 2.1). It reads only the hashes of the complete
-/// subtrees that cover them, at most 62, in one `read`, and for size 0 nothing. `OutOfRange` comes for each size
-/// above the reader's and above 2^62. Memory is asked for only for sizes from 1 to 2^62. What a failing source
-/// answers is passed on as it is.
+/// Returns the tree hash of the first `size` entries (RFC 6962, section 2.1). It reads the hashes of the complete
+/// subtrees that cover them, at most 62, in one `read`, and nothing for size 0. It fails with `OutOfRange` if `size`
+/// is above the reader's size or above 2^62. It allocates only for sizes from 1 to 2^62. A fault of the reader's
+/// source is returned as it is.
 pub fn tree_hash<T: TreeHash, R: HashReader, A: Allocator + Copy>(
     alloc: A,
     h: T,

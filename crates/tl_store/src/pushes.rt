@@ -1,4 +1,4 @@
-//! Adding entries to the stored hashes in a `Vec`.
+//! Adding entries to stored hashes in a `Vec`.
 
 ghost use Rattle.std.specs.Prelude.{◌≡◌, ◌≤◌, ◌<◌, ◌+◌, ◌-◌, ◌%◌, ◌^◌, [], ◌∷◌, ◌++◌, List, length, map, vec_items, vec_capacity, OnOk, OnErr};
 ghost use Rattle.tl_hash.specs.Bytes.{Bytes};
@@ -10,7 +10,7 @@ use crate::quads::push_sixteen;
 use std::alloc::{AllocError, Allocator};
 use tl_hash::{Hash, TreeHash, leaf_hash, node_hash};
 
-// Makes room for `count` hashes in all.
+// Reserves room for `count` hashes in all.
 pub(crate) fn reserve_up_to<A: Allocator>(
     hashes: &mut Vec<Hash, A>,
     count: usize,
@@ -23,8 +23,8 @@ pub(crate) fn reserve_up_to<A: Allocator>(
     hashes.reserve(count.saturating_sub(hashes.len()))
 }
 
-/// Adds the hashes of the complete subtrees that end with the last of `size` entries and are above a level. Those up to
-/// this level are there, and `first` is the last of them.
+/// Adds the hashes of the complete subtrees above level `low` that end with the last of `size` entries. Those up to
+/// `low` are there already, and `first` is the last of them.
 pub(crate) fn push_higher<T: TreeHash, A: Allocator>(
     h: T,
     hashes: &mut Vec<Hash, A>,
@@ -53,7 +53,7 @@ pub(crate) fn push_higher<T: TreeHash, A: Allocator>(
     }
 }
 
-// Adds one entry after `size` of them.
+// Adds one entry to the hashes of `size` entries.
 pub(crate) fn push_entry<T: TreeHash, A: Allocator>(
     h: T,
     hashes: &mut Vec<Hash, A>,
@@ -72,7 +72,7 @@ pub(crate) fn push_entry<T: TreeHash, A: Allocator>(
     push_higher(h, hashes, size + 1, 0, leaf);
 }
 
-// Adds entries after `size` of them, one by one.
+// Adds entries to the hashes of `size` entries, one by one.
 fn push_singly<T: TreeHash, A: Allocator, B: Allocator>(
     h: T,
     hashes: &mut Vec<Hash, A>,
@@ -91,7 +91,7 @@ fn push_singly<T: TreeHash, A: Allocator, B: Allocator>(
     }
 }
 
-// Adds entries after `size` of them, sixteen at a time where 4 divides `size`, and the rest one by one.
+// Adds entries to the hashes of `size` entries: sixteen at a time if 4 divides `size`, and the others one by one.
 fn push_sixteens<T: TreeHash, A: Allocator, B: Allocator>(
     h: T,
     hashes: &mut Vec<Hash, A>,
@@ -116,7 +116,7 @@ fn push_sixteens<T: TreeHash, A: Allocator, B: Allocator>(
     push_singly(h, hashes, count, left);
 }
 
-/// Adds entries after `size` of them: one by one up to a multiple of four, and then sixteen at a time.
+/// Adds entries to the hashes of `size` entries: one by one up to a multiple of four, and then sixteen at a time.
 pub(crate) fn push_entries<T: TreeHash, A: Allocator, B: Allocator>(
     h: T,
     hashes: &mut Vec<Hash, A>,

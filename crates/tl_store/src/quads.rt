@@ -1,4 +1,4 @@
-//! Sixteen entries added together: the hashes of four quads of them, side by side.
+//! Sixteen entries added together, as four quads that are hashed side by side.
 
 ghost use Rattle.std.specs.Prelude.{◌≡◌, ◌≤◌, ◌<◌, ◌+◌, ◌*◌, ◌%◌, ◌^◌, [], ◌++◌, List, length, map, slice_index_or, vec_items, vec_capacity};
 ghost use Rattle.tl_hash.specs.Bytes.{Bytes};
@@ -10,8 +10,8 @@ use crate::pushes::push_higher;
 use std::alloc::Allocator;
 use tl_hash::{Hash, TreeHash, hash_level};
 
-// The hashes of the complete subtrees over four quads, each of four entries: their four leaves, the nodes over the
-// first two and the last two, and the top. Each has one hash for each quad.
+// The hashes of the complete subtrees over four quads, which have four entries each: the four leaves, the nodes over
+// the first two and the last two, and the node at the top. Each field has one hash for each quad.
 #[derive(Clone, Copy)]
 struct FourQuads {
     first: [Hash; 4],
@@ -24,7 +24,7 @@ struct FourQuads {
 }
 
 impl FourQuads {
-    // The hashes of one quad, in the order in which they are stored.
+    // Returns the hashes of one quad, in the order in which they are stored.
     fn of(&self, lane: usize) -> [Hash; 7]
         requires { lane < 4 }
         ensures { result ≡ quad_of self.now lane }
@@ -41,7 +41,7 @@ impl FourQuads {
     }
 }
 
-// The hashes of four leaves side by side: of the entry at one place of each of four lists.
+// Hashes four leaves side by side: the entry at one place of each of four lists.
 fn leaves_at<T: TreeHash, A: Allocator>(
     h: T,
     place: usize,
@@ -62,7 +62,7 @@ fn leaves_at<T: TreeHash, A: Allocator>(
     h.digest_four(0, &a[place], &b[place], &c[place], &d[place])
 }
 
-// The hashes over four quads of entries, hashed side by side.
+// Hashes four quads of entries, side by side.
 fn four_quads<T: TreeHash, A: Allocator>(
     h: T,
     a: &[Vec<u8, A>],
@@ -97,7 +97,7 @@ fn four_quads<T: TreeHash, A: Allocator>(
     }
 }
 
-// Adds hashes that there is room for.
+// Adds hashes. There must be room for them.
 fn push_known<A: Allocator>(hashes: &mut Vec<Hash, A>, known: &[Hash])
     requires { length hashes.old.items + length known.now ≤ vec_capacity hashes.old }
     ensures items { hashes.new.items ≡ hashes.old.items ++ known.now }
@@ -108,7 +108,7 @@ fn push_known<A: Allocator>(hashes: &mut Vec<Hash, A>, known: &[Hash])
     }
 }
 
-// Adds the entries of one of four quads after `size` entries.
+// Adds the entries of one of four quads to the hashes of `size` entries.
 fn push_quad<T: TreeHash, A: Allocator>(
     h: T,
     hashes: &mut Vec<Hash, A>,
@@ -133,7 +133,7 @@ fn push_quad<T: TreeHash, A: Allocator>(
     push_higher(h, hashes, size + 4, 2, quad[6]);
 }
 
-/// Adds sixteen entries after `size` of them, which 4 divides.
+/// Adds sixteen entries to the hashes of `size` entries. 4 divides `size`.
 pub(crate) fn push_sixteen<T: TreeHash, A: Allocator, B: Allocator>(
     h: T,
     hashes: &mut Vec<Hash, A>,

@@ -1,4 +1,4 @@
-//! Reading stored hashes by their numbers, and why it fails.
+//! Readers of stored hashes, and why they fail.
 
 ghost use Rattle.std.specs.Prelude.{◌≡◌, ◌≤◌, ◌^◌, ℕ, List, length, map, IfOk, IfErr, OnOk};
 ghost use Rattle.tl_hash.specs.Bytes.{Bytes, Digest};
@@ -7,7 +7,7 @@ use std::alloc::{AllocError, AllocFailed, Allocator};
 use thiserror::Error;
 use tl_hash::Hash;
 
-/// Why stored hashes could not be read, in the order in which the refusals are checked.
+/// The reasons why stored hashes can't be read, in the order in which they are checked.
 #[derive(Clone, Copy, Debug, PartialEq, Eq, Error)]
 pub enum ReadFault {
     /// A number is not below the count of stored hashes.
@@ -19,7 +19,7 @@ pub enum ReadFault {
     /// Memory ran out.
     #[error("out of memory")]
     OutOfMemory,
-    /// This tile is not the one that the tree's root was made with.
+    /// The root doesn't confirm this tile.
     #[error("bad tile: level {level}, index {index}, width {width}")]
     BadTile { level: u32, index: u64, width: u32 },
 }
@@ -44,8 +44,8 @@ impl<X: Drop> From<AllocFailed<X>> for ReadFault {
     }
 }
 
-/// Reads the stored hashes of a list of entries by their numbers. A reader whose size is above 2^62 stands for no list,
-/// and each number is out of its range.
+/// Reads the stored hashes of a list of entries by their numbers. A reader whose size is above 2^62 stands for no
+/// list, and every number is out of its range.
 pub trait HashReader {
     ghost use Rattle.tl_store.specs.Stored.{stored_hash};
     ghost use Rattle.tl_store.specs.Reader.{AreReadable, GivesFault};
@@ -57,10 +57,11 @@ pub trait HashReader {
     /// Whether it stands for this list of entries under this digest function.
     ghost stands_for: { Self → Digest → List Bytes → Type 0 };
 
-    /// Which of `Source` and `BadTile` it may answer.
+    /// Whether its source may give this fault, `Source` or `BadTile`.
     ghost may_fail: { Self → ReadFault → Type 0 };
 
-    /// The stored hashes with these numbers, in this order; a number may come more than once.
+    /// Returns the stored hashes with these numbers, in order. A number may occur more than once. It fails with
+    /// `OutOfRange` if a number isn't below the count of stored hashes.
     fn read<B: Allocator>(&self, alloc: B, indexes: &[u64]) -> Result<Vec<Hash, B>, ReadFault>
         ensures hashes { (H : Digest) (entries : List Bytes)
             → stands_for self.now H entries

@@ -1,4 +1,4 @@
-//! The hash of a part of the entries from stored hashes.
+//! Tree hashes of parts of the entries, from stored hashes.
 
 ghost use Rattle.std.specs.Prelude.{◌≡◌, ◌<◌, ◌≤◌, ◌+◌, ◌-◌, ◌^◌, ℕ, List, [], take, drop, map, length, vec_len, vec_capacity, IfOk, OnErr};
 ghost use Rattle.std.specs.Int.RustNames.{count_ones};
@@ -11,10 +11,10 @@ use crate::index::stored_index;
 use std::alloc::{AllocError, Allocator};
 use tl_hash::{Hash, TreeHash, empty_hash, node_hash};
 
-/// Adds the numbers of the complete subtrees that cover the entries from `start` up to `end` side by side, from the
-/// largest to the smallest: one for each binary digit 1 of `end - start`. `start` is a multiple of a power of two
-/// that is no less than `end - start`, and `end` is at most 2^62. The list has room for them, and no memory is
-/// asked for.
+/// Adds the numbers of the complete subtrees that cover the entries from `start` up to `end`, from left to right,
+/// which is from the largest to the smallest: one for each binary digit 1 of `end - start`. `start` is a multiple of
+/// a power of two that is at least `end - start`, and `end` is at most 2^62. The list must have room for them;
+/// nothing is allocated.
 pub fn cover_indexes<A: Allocator>(indexes: &mut Vec<u64, A>, start: u64, end: u64)
     requires order { start ≤ end }
     requires aligned { IsAligned start end }
@@ -33,8 +33,8 @@ pub fn cover_indexes<A: Allocator>(indexes: &mut Vec<u64, A>, start: u64, end: u
     }
 }
 
-/// The numbers of the complete subtrees that cover the entries from `start` up to `end`, as `cover_indexes` adds
-/// them to a list. Memory is asked for once, and not at all where there is no entry.
+/// Returns the numbers of the complete subtrees that cover the entries from `start` up to `end`, in the order of
+/// `cover_indexes`. It allocates once, or not at all if there is no entry.
 pub fn segment_indexes<A: Allocator>(
     alloc: A,
     start: u64,
@@ -54,8 +54,8 @@ pub fn segment_indexes<A: Allocator>(
     Ok(indexes)
 }
 
-/// The tree hash (RFC 6962, section 2.1) of entries that are covered by complete subtrees with these hashes, from the
-/// largest to the smallest: each subtree is the left part of a node over all that come after it.
+/// Returns the tree hash (RFC 6962, section 2.1) of entries that complete subtrees with these hashes cover, from the
+/// largest to the smallest. Each subtree is the left part of a node whose right part is over all entries after it.
 pub fn cover_hash<T: TreeHash>(h: T, hashes: &[Hash]) -> Hash
     ensures { (entries : List Bytes) (start end : ℕ) (indexes : List ℕ)
         → AreCovering start end indexes → end ≤ length entries

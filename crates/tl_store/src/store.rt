@@ -34,7 +34,7 @@ impl<T: TreeHash, A: Allocator> Model for HashStore<T, A> {
 }
 
 impl<T: TreeHash, A: Allocator> HashStore<T, A> {
-    /// The store of no entries, whose hashes `h` makes. It takes no memory.
+    /// Returns a store of no entries, which hashes with `h`. It allocates nothing.
     pub fn new(alloc: A, h: T) -> HashStore<T, A>
         ensures { StandsFor result T.digest_of [] }
     {
@@ -45,9 +45,9 @@ impl<T: TreeHash, A: Allocator> HashStore<T, A> {
         }
     }
 
-    /// Adds one entry at the end and gives its index, counted from 0. The store takes up to 2^32 - 1 entries. It
-    /// fails only where it has no room for the hashes that come, and then stays as it was. An entry costs one leaf
-    /// hash, and one node hash for each subtree that it completes.
+    /// Appends an entry, and returns its index, counted from 0. The store takes up to 2^32 - 1 entries. If allocation
+    /// fails, the store doesn't change; it allocates only if it has no room for the new hashes. An entry costs one
+    /// leaf hash, and one node hash for each subtree that it completes.
     pub fn append(&mut self, entry: &[u8]) -> Result<u64, AllocError>
         requires { self.old.size < 2 ^ 32 - 1 }
         ensures entry { (entries : List Bytes)
@@ -65,9 +65,9 @@ impl<T: TreeHash, A: Allocator> HashStore<T, A> {
         Ok(index)
     }
 
-    /// Adds entries at the end, as so many calls of `append` do. Of each sixteen it hashes the leaves and the nodes of
-    /// the two lowest levels four at a time. The store takes up to 2^32 - 1 entries in all. It fails only where it has
-    /// no room for the hashes that come, and then stays as it was.
+    /// Appends entries, as calls of `append` do one by one. It hashes the leaves and the two lowest levels of nodes
+    /// of each sixteen four at a time. The store takes up to 2^32 - 1 entries in all. If allocation fails, the store
+    /// doesn't change; it allocates only if it has no room for the new hashes.
     pub fn append_all<B: Allocator>(&mut self, entries: &[Vec<u8, B>]) -> Result<(), AllocError>
         requires { self.old.size + length entries.now < 2 ^ 32 }
         ensures entries { (before : List Bytes)
@@ -85,7 +85,7 @@ impl<T: TreeHash, A: Allocator> HashStore<T, A> {
         Ok(())
     }
 
-    /// The number of entries.
+    /// Returns the number of entries.
     pub fn size(&self) -> u64
         ensures { result ≡ self.now.size }
     {
@@ -93,7 +93,7 @@ impl<T: TreeHash, A: Allocator> HashStore<T, A> {
     }
 }
 
-// Whether each number is below the count.
+// Reports whether each number is below the count.
 fn are_below(indexes: &[u64], count: usize) -> bool
     ensures { MatchBool result
         (All (λ index. index < count) indexes.now)

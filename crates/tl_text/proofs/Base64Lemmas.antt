@@ -42,7 +42,7 @@ slice_reads_bytes None None few bytes b room ok enough fits =
     let same : bytes ≡ b = cc in
     ap (λ (t : Bool). cond {A = Result ℕ DecodeSliceError} t (Err OutputSliceTooSmall) (bytes_fit (length bytes) room)) enough ∙ ap (λ (l : List ℕ). bytes_fit (length l) room) same ∙ ap (λ (t : Bool). cond {A = Result ℕ DecodeSliceError} t (Err OutputSliceTooSmall) (Ok (length b))) fits
 
--- where a text decodes into a slice, it is base64 of what was decoded
+-- if a text decodes into a slice, it is base64 of what was decoded
 pub slice_spelled : (s : List ℕ) (room n : ℕ) → IsBytes s → IsBytes (decoded_bytes_of standard s) → decode_slice_of standard s room ≡ Ok n → IsSpelled s (decoded_bytes_of standard s) × (n ≡ length (decoded_bytes_of standard s))
 slice_spelled s room n bytes fit ok =
     let parts = slice_ok _ _ (nat_lt (room / 3) (groups_before_last (length s))) (decoded_bytes_of standard s) room n ok in
@@ -116,7 +116,7 @@ block_rest s b is long =
 pub spelled_once : (s a b : List ℕ) → IsSpelled s a → IsSpelled s b → a ≡ b
 spelled_once s a b is_a is_b = base64_once a b is_a.fit is_b.fit (sym is_a.spelled ∙ is_b.spelled)
 
--- reading on: the whole is base64 exactly where what is left is
+-- reading on: the whole is base64 exactly if what is left is
 pub record ReadsOn (text left : List ℕ) : Type 0 where
   pub whole : (b : List ℕ) → IsSpelled left b → IsBase64 text
   pub part : (b : List ℕ) → IsSpelled text b → IsBase64 left
@@ -146,7 +146,7 @@ short_block text left block bytes on long is read short all =
     let front : IsSpelled block (take 6 here.0) = subst (λ (s : List ℕ). IsSpelled s (take 6 here.0)) (sym is) (block_front left here.0 here.1) in
     short (ap (λ (b : List ℕ). length b) (spelled_once block bytes (take 6 here.0) read front) ∙ whole_block left here.0 here.1 long)
 
--- the test fails where the fact doesn't hold
+-- the test fails if the fact doesn't hold
 pub is_refused : {P : Type 0} → (P → ⊥) → IsTrue false ↔ P
 is_refused none = (λ t. absurd (let e : false ≡ true = t in cc), λ p. absurd (none p))
 

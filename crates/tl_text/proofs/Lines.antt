@@ -1,4 +1,4 @@
--- Lines: where a line ends, and that a list of lines is read in one way.
+-- Lines: the end of a line, and that a list of lines is read in one way.
 use Rattle.std.proofs.Common.{◌≡◌, ℕ, ◌≤◌, List, [], ◌∷◌, ◌++◌, length, refl, sym, ap, ◌∙◌, arith, All}
 use Rattle.std.specs.Prelude.{◌≢◌}
 use Rattle.std.specs.List.{flat_map}

@@ -1,4 +1,4 @@
--- Where the first line of a text ends.
+-- The end of the first line of a text.
 use Rattle.std.proofs.Common.{◌≡◌, ℕ, ◌≤◌, List, [], ◌∷◌, ◌++◌, get_or, sym, subst, ◌∙◌, append_assoc, arith, Option, Bor}
 use Rattle.std.specs.Prelude.{MatchOption, IsUtf8, Some}
 use Rattle.std.specs.Str.{IsCharBoundary}

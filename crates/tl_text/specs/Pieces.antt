@@ -1,4 +1,4 @@
--- What isn't a line, a number or a hash in a text.
+-- Texts that are no line, no number or no hash.
 use Rattle.std.specs.Prelude.{◌≢◌, ℕ, ◌++◌}
 use Rattle.tl_hash.specs.Bytes.{Bytes, IsHash}
 use Rattle.tl_text.specs.Text.{line, number_text, base64_text, HasNoControl, IsSize}

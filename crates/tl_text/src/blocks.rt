@@ -1,26 +1,26 @@
-//! Base64 of any bytes, read eight characters at a time, so that no memory is asked for.
+//! Base64 of any bytes, read eight characters at a time, so that nothing is allocated.
 
 ghost use Rattle.std.specs.Prelude.{◌≤◌, length, IsTrue, ◌↔◌, MatchOption};
 ghost use Rattle.tl_text.specs.Base64.{IsBase64, IsNoBase64, IsRead};
 
 use base64::engine::general_purpose::STANDARD;
 
-/// How many characters of base64 a block has.
+/// The number of characters of a block of base64.
 pub const BLOCK_LEN: usize = 8;
 
-/// How many bytes a whole block stands for.
+/// The number of bytes that a whole block encodes.
 pub const BLOCK_BYTES: usize = 6;
 
-/// What a block of at most eight characters stands for.
+/// The bytes that a block of at most eight characters encodes.
 #[derive(Clone, Copy, Debug)]
 pub struct Block {
-    /// How many bytes it stands for.
+    /// How many bytes it encodes.
     pub count: usize,
-    /// They are the front of these.
+    /// An array that begins with them.
     pub bytes: [u8; BLOCK_BYTES],
 }
 
-/// Reads a block of at most eight characters, strict base64 (RFC 4648, section 4), padded where its bytes ask for it.
+/// Decodes a block of at most eight characters of strict base64 (RFC 4648, section 4), padded if its bytes need it.
 pub fn decode_base64_block(text: &[u8]) -> Option<Block>
     requires { length text.now ≤ 8 }
     ensures { MatchOption result (IsNoBase64 text.now)
@@ -33,7 +33,8 @@ pub fn decode_base64_block(text: &[u8]) -> Option<Block>
     }
 }
 
-/// Whether a text is strict base64 (RFC 4648, section 4). It is read a block at a time, and takes no memory.
+/// Reports whether a text is strict base64 (RFC 4648, section 4). It decodes a block at a time, and allocates
+/// nothing.
 pub fn is_base64(text: &[u8]) -> bool
     ensures { IsTrue result ↔ IsBase64 text.now }
 {

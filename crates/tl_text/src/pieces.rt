@@ -1,5 +1,5 @@
-//! Readers of a line, a decimal number, a hash in base64, each of which takes exactly what has that spelling; and the
-//! writer of a line.
+//! Readers of a line, a decimal number and a hash in base64, and the writer of a line. Each reader takes exactly one
+//! spelling of its value.
 
 ghost use Rattle.std.specs.Prelude.{◌≡◌, ◌<◌, ◌^◌, ◌++◌, MatchOption, IsTrue, ◌↔◌, IsUtf8, OnOk, string_bytes};
 ghost use Rattle.tl_hash.specs.Bytes.{IsHash};
@@ -11,22 +11,22 @@ use itoa::Buffer;
 use std::alloc::{AllocError, Allocator};
 use tl_hash::Hash;
 
-// Whether a text has no character below 0x20.
+// Reports whether a text has no character below 0x20.
 fn is_plain(text: &str) -> bool
     ensures { IsTrue result ↔ HasNoControl text.now }
 {
     text.bytes().all(|byte| byte >= 0x20)
 }
 
-/// Whether a text is one line that isn't empty: no character is below 0x20.
+/// Reports whether a text is one line and not empty: it has no character below 0x20.
 pub fn is_one_line(text: &str) -> bool
     ensures { IsTrue result ↔ IsOneLine text.now }
 {
     !text.is_empty() && is_plain(text)
 }
 
-/// The first line of a text, without its newline, and what follows it. A line ends with a newline and has no other
-/// character below 0x20.
+/// Returns the first line of a text, without its newline, and what follows it. A line ends with a newline and has no
+/// other character below 0x20.
 pub fn split_line(text: &str) -> Option<(&str, &str)>
     ensures { MatchOption result (IsNoLine text.now)
         (λ r. HasNoControl r.0.now × (text.now ≡ line r.0.now ++ r.1.now) × IsUtf8 r.1.now) }
@@ -40,7 +40,7 @@ pub fn split_line(text: &str) -> Option<(&str, &str)>
     Some((words, rest))
 }
 
-/// The number below 2^63 that a text is, in decimal without sign or leading zeros.
+/// Reads a number below 2^63 in decimal, without sign or leading zeros.
 pub fn parse_size(text: &str) -> Option<u64>
     ensures { MatchOption result (IsNoSize text.now)
         (λ size. (size < 2 ^ 63) × (text.now ≡ number_text size)) }
@@ -57,10 +57,10 @@ pub fn parse_size(text: &str) -> Option<u64>
     Some(size)
 }
 
-// Room for what 44 characters of base64 may stand for.
+// The most bytes that 44 characters of base64 can encode.
 const HASH_ROOM: usize = 33;
 
-/// The hash that a text is, in padded base64 of 32 bytes. No memory is asked for.
+/// Reads a hash: 32 bytes in padded base64. It allocates nothing.
 pub fn parse_hash(text: &str) -> Option<Hash>
     ensures { MatchOption result (IsNoHash text.now)
         (λ hash. IsHash hash × (text.now ≡ base64_text hash)) }
@@ -75,7 +75,7 @@ pub fn parse_hash(text: &str) -> Option<Hash>
     Some(Hash::from_bytes(hash))
 }
 
-/// Appends a text and the newline that ends its line. It fails only where a growth was refused.
+/// Appends a text and a newline. It fails only if allocation fails; then part of the line may be appended.
 pub fn push_line<A: Allocator>(out: &mut String<A>, text: &str) -> Result<(), AllocError>
     ensures { OnOk result (string_bytes out.new ≡ string_bytes out.old ++ line text.now) }
 {

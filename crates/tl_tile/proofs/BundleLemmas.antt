@@ -51,7 +51,7 @@ append_not_nil : (xs ys : List ℕ) → xs ≢ [] → xs ++ ys ≢ []
 append_not_nil [] ys some e = some refl
 append_not_nil (x ∷ xs) ys some e = absurd cc
 
--- where an entry ends too soon, a bundle does: empty entries fill it
+-- if an entry ends too soon, a bundle does: empty entries fill it
 pub truncated_at : (bytes : List ℕ) (width : ℕ) (es : List (List ℕ)) (rest : List ℕ) → bytes ≡ bundle_text es ++ rest → AreShortEntries es → length es < width → IsPartialEntry rest → IsTruncated bytes width
 truncated_at bytes width es rest joined short few (e, short_e, partial) =
     let fill : List (List ℕ) = replicate (width - (length es + 1)) [] in
@@ -65,7 +65,7 @@ truncated_at bytes width es rest joined short few (e, short_e, partial) =
     let count : length all ≡ width = omega (arith, length-append es (e ∷ fill), length-replicate {A = List ℕ} (width - (length es + 1)) []) in
     (all, record { short = All-append IsShortEntry es (e ∷ fill) short (All-cons IsShortEntry e fill short_e fill_short); count = count }, record { rest = more ++ bundle_text fill; joined = whole; more = append_not_nil more (bundle_text fill) partial.more })
 
--- so many entries were read, and rest is left
+-- this many entries were read, and the rest is left
 pub record HasRead (bytes : List ℕ) (count : ℕ) (es : List (List ℕ)) (rest : List ℕ) : Type 0 where
   pub joined : bytes ≡ bundle_text es ++ rest
   pub short : AreShortEntries es
@@ -81,7 +81,7 @@ has_read_more bytes count es rest e after so_far short is = record {
   len = omega (arith, so_far.len, length-append es (e ∷ []));
 }
 
--- the same, where the entries lie in memory
+-- the same, if the entries are in memory
 pub has_read_one : {A : Type 0} (bytes : List ℕ) (count : ℕ) (old new : List (Vec ℕ A)) (v : Vec ℕ A) (rest e after : List ℕ) → HasRead bytes count (map vec_items old) rest → IsShortEntry e
     → rest ≡ bundled_entry e ++ after → v.items ≡ e → new ≡ old ++ v ∷ [] → HasRead bytes (count + 1) (map vec_items new) after
 has_read_one bytes count old new v rest e after so_far short is copied pushed =

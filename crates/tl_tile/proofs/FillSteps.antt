@@ -16,7 +16,7 @@ use Rattle.tl_tile.proofs.Levels.{wide_of, level_parts, Folds}
 use Rattle.tl_tile.proofs.Below.{count_below-more, count_below-within, length-below, below_slice, shifted_count}
 use Rattle.tl_tile.proofs.Fills.{IsFilled, AreFollowed, counts_after, count_is, next_filled, before_wide, low_level, below_none, fill_kept, fold_step, text_step, filled_levels_are}
 
--- the full tiles of the lower levels that end with the last of so many entries
+-- the full tiles of the lower levels that end with the last of this many entries
 abbrev pub tiles_below : ℕ → ℕ → List Tile
 tiles_below size level = map (λ l. full_tile l (size / 256 ^ (l + 1) - 1)) (range_with_len 0 level)
 

@@ -60,7 +60,7 @@ rest_up size level higher up =
     let sum : level + (higher - level) ≡ higher = omega (arith, up) in
     subst (λ (x : ℕ). size % 256 ^ level ≤ size % 256 ^ x) sum (rest_grows size level (higher - level))
 
--- the size is so many full places of a level, and not of the next
+-- the size is this many full places of a level, and not of the next
 pub record IsFilled (size level count : ℕ) : Type 0 where
   pub scaled : count * 256 ^ level ≡ size
   pub some : 0 < count
@@ -85,7 +85,7 @@ before_count size level count filled =
     let sum : size - 1 ≡ (count - 1) * u + (u - 1) = omega (arith, filled.scaled, product, positive) in
     ap (λ (x : ℕ). x / u) sum ∙ div-mul-add (count - 1) u (u - 1) (omega (arith, positive))
 
--- where a level is not full, one entry fewer has as many places
+-- if a level is not full, one entry fewer has as many places
 pub same_count : (size level : ℕ) → 0 < size % 256 ^ level → level_count (size - 1) level ≡ level_count size level
 same_count size level some =
     let u : ℕ = 256 ^ level in
@@ -128,7 +128,8 @@ low_level size level count small filled =
           absurd (omega (arith, rest, none, own, one, filled.scaled, positive_256 level))
     ]
 
--- one place of a level more, after entries that are full places of that level, counts as one entry does there and above
+-- one place of a level more, after entries that are full places of that level, counts as one entry does there and
+-- above
 counts_up : (was lowest size more : ℕ) → was % 256 ^ lowest ≡ 0 → was + 256 ^ lowest ≡ size → level_count was (lowest + more) ≡ level_count (size - 1) (lowest + more)
 counts_up was lowest size zero whole sum =
     let u : ℕ = 256 ^ lowest in

@@ -10,7 +10,7 @@ use Rattle.tl_tile.specs.TileText.{level_count}
 use Rattle.tl_tile.specs.Needed.{tile_at, pieces_since, needed_resources_since}
 use Rattle.tl_tile.specs.declared.resource.Resource.TheVariants as resource
 
--- the full ones from a place on, so many
+-- the full ones from a place on, this many
 abbrev pub full_pieces : (ℕ → ℕ → Resource) → ℕ → ℕ → List Resource
 full_pieces piece first n = map (λ index. piece index 256) (range_with_len first n)
 

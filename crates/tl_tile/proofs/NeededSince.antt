@@ -14,7 +14,7 @@ use Rattle.tl_tile.proofs.Members.{map_has, has_map, range_has, has_range, flat_
 use Rattle.tl_tile.proofs.TileTexts.{scaled_le}
 use Rattle.tl_tile.proofs.Levels.{level_parts}
 
--- a full piece of a row of so many, or its partial one
+-- a full piece of a row of this many, or its partial one
 abbrev IsPiece : ℕ → ℕ → ℕ → Type 0
 IsPiece count i w = ((i < count / 256) × (w ≡ 256)) ⊎ ((i ≡ count / 256) × (w ≡ count % 256) × (0 < count % 256))
 

@@ -44,7 +44,7 @@ pub bad-length : (H : Digest) (size : ℕ) (root : List ℕ) (old new : List (Ti
     → new ≡ old ++ (tile, text) ∷ [] → length text ≢ 32 * tile.width → IsBadTile H size root new tile
 bad-length H size root old new tile text of pushed differ = record { of_log = of; because = inl (text, (old, pushed), differ) }
 
--- a fault where more tiles may be lacking
+-- a fault if more tiles may be lacking
 pub fault-weaker : (H : Digest) (few many : Tile → Type 0) (size : ℕ) (root : List ℕ) (fetched : List (Tile × List ℕ)) (fault : ReadFault) → ((t : Tile) → few t → many t)
     → GivesReadFault H few size root fetched fault → GivesReadFault H many size root fetched fault
 fault-weaker H few many size root fetched OutOfRange weaker gives = absurd gives
@@ -178,7 +178,7 @@ adds-only may_answer H size root Is t old new is (inr (text, pushed, answer, nex
   each = All-cons (λ (f : Tile × List ℕ). Is f.0) (t, text) [] is (All-nil (λ (f : Tile × List ℕ). Is f.0));
 }
 
--- the first of the partial tiles, where there were none
+-- the first of the partial tiles, if there were none
 pub adds-first : (may_answer : Tile → List ℕ → Type 0) (H : Digest) (size : ℕ) (root : List ℕ) (old new : List (Tile × List ℕ)) → old ≡ [] → AreFetched may_answer H size root new
     → ((rest : List Tile) × (edge_tiles size ≡ tiles_in new ++ rest)) → AddsTiles may_answer H size root (IsPartialOf size) old new
 adds-first may_answer H size root old new none are (rest, front) =

@@ -26,7 +26,7 @@ next-at H size root before [] ys y order = subst (λ (list : List (Tile × List 
 next-at H size root before (x ∷ xs) ys y order =
     subst (λ (list : List (Tile × List ℕ)). ComesNext H size root list y.0) (append_assoc before (x ∷ []) xs) (next-at H size root (before ++ x ∷ []) xs ys y order.1)
 
--- where the first that pass a test are not all, the next one doesn't pass it
+-- if the first that pass a test are not all, the next one doesn't pass it
 record IsCut {X : Type 0} (p : X → Bool) (xs : List X) : Type 0 where
   next : X
   rest : List X

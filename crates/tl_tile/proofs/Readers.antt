@@ -27,7 +27,7 @@ readable_of_none : readable_count 0 ≡ 0
 unfolding stored_count
 readable_of_none = refl
 
--- where a number is readable there are entries, and not too many
+-- if a number is readable, there are entries, and not too many
 pub readable_some : (size index : ℕ) → index < readable_count size → (0 < size) × (size ≤ 2 ^ 62)
 readable_some size index less =
     elim (cases_lt (2 ^ 62) size) as (λ _. (0 < size) × (size ≤ 2 ^ 62)) [

@@ -103,7 +103,7 @@ all-stored H wide tiles size root checked entries len is_root (n ∷ indexes) (h
           ]
     ]
 
--- where the tiles are honest, all these hashes are stored
+-- if the tiles are honest, all these hashes are stored
 all-honest : (H : Digest) → ((message : List ℕ) → HasHashLength (H message)) → (tiles : Tiles) (entries : List (List ℕ)) → AreHonest H tiles entries
     → (indexes : List ℕ) (hashes : List (List ℕ)) → AreHashesOf H tiles (length entries) indexes hashes → hashes ≡ map (stored_hash H entries) indexes
 all-honest H wide tiles entries honest [] [] are = refl

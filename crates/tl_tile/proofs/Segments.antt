@@ -16,7 +16,7 @@ pub use Rattle.tl_tile.proofs.Levels.{power_of_256}
 abbrev pub HasHashLength : List ℕ → Type 0
 HasHashLength hash = length hash ≡ 32
 
--- the entries under so many places from a start on, u under each
+-- the entries under this many places from a start on, u under each
 abbrev pub segment : ℕ → ℕ → ℕ → List (List ℕ) → List (List ℕ)
 segment u start count entries = take (count * u) (drop (start * u) entries)
 

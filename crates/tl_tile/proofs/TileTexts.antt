@@ -59,7 +59,7 @@ tile_text-stored H t size entries numbers hashes bytes has len numbers_are hashe
     bytes_are ∙ ap (flat_map (λ hash. hash)) (hashes_are ∙ ap (map (stored_hash H entries)) numbers_are)
     ∙ stored_text H t.level t.index 0 t.width entries (omega (arith, has.1, len, same))
 
--- the reader has the tile where it has all its numbers
+-- the reader has the tile if it has all its numbers
 number_at : (t : Tile) (i d : ℕ) → i < t.width → slice_index_or (tile_numbers t) i d ≡ stored_index (8 * t.level) (t.index * 256 + i)
 number_at t i d less = get_or-map-range_with_len (λ x. stored_index (8 * t.level) (t.index * 256 + x)) 0 t.width i i d less (omega arith)
 

@@ -12,7 +12,7 @@ equal-from Less is = absurd (cc)
 equal-from Equal is = refl
 equal-from Greater is = absurd (cc)
 
--- two keys are apart where their levels or their indexes are
+-- two keys are apart if their levels or their indexes are
 pub keys-apart : (level index l i : ℕ) → (l ≡ level → i ≡ index → ⊥) → is_eq (key_cmp (level, index) (l, i)) ≡ false
 keys-apart level index l i apart =
     elim (cases_Bool (is_eq (key_cmp (level, index) (l, i)))) as (λ _. is_eq (key_cmp (level, index) (l, i)) ≡ false) [

@@ -14,7 +14,7 @@ use Rattle.tl_hash.proofs.Bytes.{cases_bytes, node_input-injective}
 use Rattle.tl_hash.proofs.SameSize.{Collision, Collision-among, Contains-head, Contains-tail, inputs-root, inputs-first, inputs-rest}
 use Rattle.tl_tile.specs.Folds.{IsFold, nothing, given, split}
 
--- every hash that a fold comes to is a hash, where those given are
+-- every hash that a fold gives is a hash, if those given are
 pub IsFold-hash : (H : Digest) (IsGiven : ℕ → ℕ → List ℕ → Type 0) → ((message : List ℕ) → HasHashLength (H message))
     → ((s c : ℕ) (h : List ℕ) → IsGiven s c h → HasHashLength h)
     → (start count : ℕ) (hash : List ℕ) (strings : List (List ℕ)) → IsFold H IsGiven start count hash strings → HasHashLength hash
@@ -43,7 +43,7 @@ nodes_meet H wide k a b strings entries s is found same =
       )
     ]
 
--- a place where a fold is given a hash, over w places from t on, where no hash is given over more
+-- a place at which a fold is given a hash, over w places from t on, and no hash is given over more
 pub record IsTarget (IsGiven : ℕ → ℕ → List ℕ → Type 0) (t w : ℕ) (hash_there : List ℕ) : Type 0 where
   pub power : IsPowerOfTwo w
   pub is_given : IsGiven t w hash_there
@@ -55,7 +55,7 @@ abbrev pub Meets : (List ℕ → List ℕ) → ℕ → List (List ℕ) → ℕ �
 Meets H u entries t w hash_there start count strings =
     (hash_there ≡ tree_hash H (segment u t w entries)) ⊎ Collision H strings (inputs H (segment u start count entries))
 
--- where the run is the target itself
+-- if the run is the target itself
 meets-here : (H : Digest) (IsGiven : ℕ → ℕ → List ℕ → Type 0) (u : ℕ) (entries : List (List ℕ)) (t w : ℕ) (hash_there : List ℕ) → IsTarget IsGiven t w hash_there
     → (start count : ℕ) (hash : List ℕ) → start ≡ t → count ≡ w → IsGiven start count hash → hash ≡ tree_hash H (segment u start count entries)
     → hash_there ≡ tree_hash H (segment u t w entries)
@@ -161,7 +161,7 @@ fold_of_right H IsGiven u power entries start count hash strings (split s c k le
     ∙ (λ i. H (node_input (tree_hash H (sym (segment-first u s k c entries k_in) i)) (tree_hash H (sym (segment-rest u s k c entries k_in) i))))
     ∙ sym (tree_hash-split H (k * u) here scaled)
 
--- a fold is of one hash, where one hash is given of a run
+-- a fold has one hash, if one hash is given of a run
 pub IsFold-unique : (H : Digest) (IsGiven : ℕ → ℕ → List ℕ → Type 0) → ((s c : ℕ) (h g : List ℕ) → IsGiven s c h → IsGiven s c g → h ≡ g)
     → (start count : ℕ) (hash : List ℕ) (strings : List (List ℕ)) → IsFold H IsGiven start count hash strings
     → (other : List ℕ) (others : List (List ℕ)) → IsFold H IsGiven start count other others → hash ≡ other

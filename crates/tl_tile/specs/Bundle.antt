@@ -1,18 +1,18 @@
--- An entry bundle (C2SP tlog-tiles, "Log Entries").
+-- Entry bundles (C2SP tlog-tiles, "Log Entries").
 use Rattle.std.specs.Prelude.{ℕ, ◌≤◌, ◌≡◌, ◌≢◌, List, [], ◌++◌, length, All}
 use Rattle.std.specs.List.{flat_map}
 use Rattle.std.specs.Int.{w16, to_be_bytes}
 use Rattle.tl_hash.specs.Bytes.{Bytes}
 
--- an entry with its length in front, as 16 bits, big-endian
+-- an entry after its length, in 16 bits, big-endian
 abbrev pub bundled_entry : Bytes → Bytes
 bundled_entry entry = to_be_bytes w16 (length entry) ++ entry
 
--- the entries, one after the other
+-- the entries, one after another
 abbrev pub bundle_text : List Bytes → Bytes
 bundle_text entries = flat_map bundled_entry entries
 
--- the most bytes of an entry, whose length has 16 bits
+-- the length of the longest entry, in bytes: the length has 16 bits
 abbrev pub most_entry : ℕ
 most_entry = 65535
 
@@ -30,23 +30,23 @@ pub record IsProperPrefix (front whole : Bytes) : Type 0 where
   pub joined : whole ≡ front ++ rest
   pub more : rest ≢ []
 
--- bytes end within one entry
+-- the bytes end within an entry
 abbrev pub IsPartialEntry : Bytes → Type 0
 IsPartialEntry bytes = (entry : Bytes) × IsShortEntry entry × IsProperPrefix bytes (bundled_entry entry)
 
--- a bundle's entries, as many as its width
+-- the entries of a bundle of this width
 pub record AreEntries (width : ℕ) (entries : List Bytes) : Type 0 where
   pub short : AreShortEntries entries
   pub count : length entries ≡ width
 
--- bytes are a bundle of so many entries
+-- the bytes are a bundle of this many entries
 abbrev pub IsBundle : Bytes → ℕ → Type 0
 IsBundle bytes width = (entries : List Bytes) × AreEntries width entries × (bytes ≡ bundle_text entries)
 
--- bytes end within a bundle of so many entries
+-- the bytes end within a bundle of this many entries
 abbrev pub IsTruncated : Bytes → ℕ → Type 0
 IsTruncated bytes width = (entries : List Bytes) × AreEntries width entries × IsProperPrefix bytes (bundle_text entries)
 
--- bytes go on past a bundle of so many entries
+-- the bytes go on after a bundle of this many entries
 abbrev pub HasTrailing : Bytes → ℕ → Type 0
 HasTrailing bytes width = (entries : List Bytes) × AreEntries width entries × IsProperPrefix (bundle_text entries) bytes

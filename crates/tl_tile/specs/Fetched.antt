@@ -1,4 +1,4 @@
--- Tiles that were fetched, in the order of their fetching.
+-- Fetched tiles, in the order in which they were fetched.
 use Rattle.std.specs.Prelude.{ℕ, Bool, List, [], ◌∷◌, map, vec_items, Some, None, ◌&&◌, ◌||◌, ◌==◌, ◌/◌, ◌^◌, nat_lt, if◌then◌else◌}
 use Rattle.std.specs.declared.vec.Vec.{Vec}
 use Rattle.tl_hash.specs.Bytes.{Bytes}

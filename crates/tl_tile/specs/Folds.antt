@@ -1,5 +1,5 @@
--- What the hashes of fetched tiles fold to: the root of a log, and the hashes of its subtrees (RFC 6962, 2.1; C2SP
--- tlog-tiles, "Merkle Tree").
+-- Folding the hashes of fetched tiles: to the root of a log, and to the hashes of its subtrees (RFC 6962, section
+-- 2.1; C2SP tlog-tiles, "Merkle Tree").
 use Rattle.std.specs.Prelude.{◌≡◌, ◌≢◌, ℕ, ◌+◌, ◌-◌, ◌*◌, ◌/◌, ◌%◌, ◌^◌, ◌<◌, ◌≤◌, List, [], ◌∷◌, ◌++◌, length, take, drop, Option, Some, Contains, ◌⊎◌}
 use Rattle.tl_hash.specs.Bytes.{Bytes, Digest}
 use Rattle.tl_hash.specs.Split.{IsSplit}
@@ -9,12 +9,12 @@ use Rattle.tl_tile.specs.TileText.{level_count, full_tile, partial_tile, tile_wi
 
 -- ---- folding hashes
 
--- no hash is given of the run of so many places from this one on
+-- no hash is given of the run of `count` places from `start` on
 abbrev pub IsNotGiven : (ℕ → ℕ → Bytes → Type 0) → ℕ → ℕ → Type 0
 IsNotGiven IsGiven start count = (hash : Bytes) → IsGiven start count hash → ⊥
 
--- A fold: the tree hash over a run of `count` places from `start` on, where `IsGiven` says of which runs a hash is
--- given. It comes to one hash, and has a list of the strings that it hashes on the way.
+-- A fold: the tree hash over a run of `count` places from `start` on. `IsGiven` says of which runs a hash is given. A
+-- fold has one hash, and the list of the strings that are hashed for it.
 pub data IsFold (H : Digest) (IsGiven : ℕ → ℕ → Bytes → Type 0) : ℕ → ℕ → Bytes → List Bytes → Type 0 where
   -- of no places: the digest of no bytes
   nothing : (start : ℕ) → IsFold H IsGiven start 0 (H []) ([] ∷ [])
@@ -26,18 +26,18 @@ pub data IsFold (H : Digest) (IsGiven : ℕ → ℕ → Bytes → Type 0) : ℕ 
       → IsFold H IsGiven start k left lefts → IsFold H IsGiven (start + k) (count - k) right rights
       → IsFold H IsGiven start count (H (node_input left right)) (node_input left right ∷ lefts ++ rights)
 
--- the texts of the tiles that were fetched
+-- the texts of the fetched tiles
 abbrev pub Tiles : Type 0
 Tiles = Tile → Option Bytes
 
--- the hash with this number in a tile's text: 32 bytes of it
+-- the hash with this number in a tile's text, of 32 bytes
 pub record IsHashAt (text : Bytes) (number : ℕ) (hash : Bytes) : Type 0 where
   pub bytes : hash ≡ take 32 (drop (32 * number) text)
   pub whole : length hash ≡ 32
 
 -- ---- the partial tiles
 
--- a place of a level lies in the level's partial tile
+-- a place of a level is in the level's partial tile
 abbrev pub IsOnEdge : ℕ → ℕ → ℕ → Type 0
 IsOnEdge size level place = (level_count size level / 256 * 256 ≤ place) × (place < level_count size level)
 
@@ -62,7 +62,7 @@ IsEdgeRoot H tiles size root strings = IsFold H (IsEdgeHash tiles size) 0 size r
 abbrev pub IsOwnHash : Bytes → ℕ → ℕ → Bytes → Type 0
 IsOwnHash text start count hash = (count ≡ 1) × IsHashAt text start hash
 
--- the hash that so many hashes of a tile fold to, and the strings hashed for it
+-- the hash that `count` hashes of a tile fold to, from hash `start` on, and the strings hashed for it
 abbrev pub IsPartHash : Digest → Bytes → ℕ → ℕ → Bytes → List Bytes → Type 0
 IsPartHash H text start count hash strings = IsFold H (IsOwnHash text) start count hash strings
 
@@ -72,7 +72,7 @@ IsTileHash H text hash strings = IsPartHash H text 0 256 hash strings
 
 -- ---- checked tiles
 
--- a full tile folds to the hash that the tile above has for it, and that tile was fetched too
+-- a full tile folds to the hash that the tile above has for it, and the tile above was fetched too
 pub record FoldsToAbove (H : Digest) (tiles : Tiles) (size level index : ℕ) (text : Bytes) : Type 0 where
   pub above : Bytes
   pub hash : Bytes
@@ -81,16 +81,16 @@ pub record FoldsToAbove (H : Digest) (tiles : Tiles) (size level index : ℕ) (t
   pub there : IsHashAt above (index % 256) hash
   pub folds : IsTileHash H text hash strings
 
--- what a client checks of the tiles that it fetched: the partial ones fold to the root, and each full one to its hash
--- in the tile above
+-- what a client checks of the tiles that it fetched: the partial ones fold to the root, and each full one folds to
+-- its hash in the tile above
 pub record AreChecked (H : Digest) (tiles : Tiles) (size : ℕ) (root : Bytes) : Type 0 where
   pub strings : List Bytes
   pub folds : IsEdgeRoot H tiles size root strings
   pub full : (level index : ℕ) (text : Bytes) → index < level_count size (level + 1)
       → tiles (full_tile level index) ≡ Some text → FoldsToAbove H tiles size level index text
 
--- the hash of the complete subtree over 2 ^ level entries at this place: what its hashes of level / 8 fold to, which
--- are side by side in one tile
+-- the hash of the complete subtree over 2 ^ level entries at this place: the one that its hashes of level / 8 fold
+-- to, which are next to each other in one tile
 pub record IsSubtreeHash (H : Digest) (tiles : Tiles) (size level place : ℕ) (hash : Bytes) : Type 0 where
   pub text : Bytes
   pub strings : List Bytes
@@ -121,7 +121,7 @@ pub record IsFoldedForTile (H : Digest) (tiles : Tiles) (string : Bytes) : Type 
 abbrev pub IsFolded : Digest → Tiles → ℕ → Bytes → Type 0
 IsFolded H tiles size string = IsFoldedForRoot H tiles size string ⊎ IsFoldedForTile H tiles string
 
--- an input of the tree over the entries and a string hashed for the tiles, different and with one digest
+-- an input of the tree over the entries and a string hashed for the tiles differ and have one digest
 pub record TilesCollide (H : Digest) (tiles : Tiles) (size : ℕ) (entries : List Bytes) : Type 0 where
   pub x : Bytes
   pub y : Bytes

@@ -7,7 +7,7 @@ use Rattle.tl_tile.specs.declared.resource.Tile.{Tile}
 use Rattle.tl_tile.specs.declared.resource.Resource.{Resource}
 use Rattle.tl_tile.specs.declared.resource.Resource.TheVariants as resource
 
--- the bounds of this profile: a level from 0 to 7, an index below 2^56, a width from 1 to 256
+-- the bounds of a tile: a level from 0 to 7, an index below 2^56, a width from 1 to 256
 pub record IsTile (t : Tile) : Type 0 where
   pub level : t.level ≤ 7
   pub index : t.index < 2 ^ 56
@@ -23,11 +23,11 @@ IsResource resource.Checkpoint = ⊤
 abbrev pub three_digits : ℕ → Bytes
 three_digits n = (48 + n / 100) ∷ (48 + n / 10 % 10) ∷ (48 + n % 10) ∷ []
 
--- a group that another follows: `x`, its digits, `/`
+-- a group that isn't the last: `x`, its digits, `/`
 abbrev pub marked_group : ℕ → Bytes
 marked_group n = 120 ∷ three_digits n ++ 47 ∷ []
 
--- an index in groups of three digits, as few as hold it; each but the last is marked
+-- an index in groups of three digits, as few as possible; each but the last is marked
 abbrev pub index_text : ℕ → Bytes
 index_text n = flat_map marked_group (digits_of 1000 (n / 1000)) ++ three_digits (n % 1000)
 

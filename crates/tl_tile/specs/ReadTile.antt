@@ -1,4 +1,4 @@
--- What reading a tile (C2SP tlog-tiles, "Merkle Tree") through a reader of stored hashes answers.
+-- What reading a tile through a reader of stored hashes returns (C2SP tlog-tiles, "Merkle Tree").
 use Rattle.std.specs.Prelude.{ℕ, ◌+◌, ◌*◌, ◌^◌, ◌≤◌}
 use Rattle.tl_store.specs.declared.reader.ReadFault.{ReadFault}
 use Rattle.tl_store.specs.declared.reader.ReadFault.TheVariants.{OutOfRange, Source, OutOfMemory, BadTile}
@@ -12,8 +12,8 @@ end_of t = (t.index * 256 + t.width) * 256 ^ t.level
 abbrev pub HasTile : ℕ → Tile → Type 0
 HasTile size t = (size ≤ 2 ^ 62) × (end_of t ≤ size)
 
--- when reading a tile through a reader of this size gives this fault; `may_fail` says which of `Source` and `BadTile`
--- the reader may give. A tile has a hash, so that memory is asked for at each call
+-- when reading a tile through a reader of this size fails with this fault; `may_fail` says which of `Source` and
+-- `BadTile` the reader may give. Each tile has a hash, so each call allocates
 abbrev pub GivesTileFault : ℕ → (ReadFault → Type 0) → Tile → ReadFault → Type 0
 GivesTileFault size may_fail t OutOfRange = HasTile size t → ⊥
 GivesTileFault size may_fail t Source = may_fail Source × HasTile size t

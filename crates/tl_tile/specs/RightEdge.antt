@@ -7,13 +7,13 @@ use Rattle.tl_hash.specs.Tree.{tree_hash}
 use Rattle.tl_tile.specs.declared.resource.Tile.{Tile}
 use Rattle.tl_tile.specs.TileText.{level_count, entries_under, full_tile, partial_tile, tile_text}
 
--- ---- tiles that are shown
+-- ---- tiles with their bytes
 
 -- a tile with its bytes over the entries
 abbrev pub shown : Digest → List Bytes → Tile → Tile × Bytes
 shown H entries t = (t, tile_text H t entries)
 
--- the partial tile of a level with its bytes, where there is one
+-- the partial tile of a level with its bytes, if there is one
 abbrev pub shown_partial : Digest → List Bytes → ℕ → Option (Tile × Bytes)
 shown_partial H entries level =
     if level_count (length entries) level % 256 == 0 then None
@@ -23,15 +23,15 @@ shown_partial H entries level =
 abbrev pub filled_levels : ℕ → List ℕ
 filled_levels n = filter (λ level. n % 256 ^ (level + 1) == 0) (range_with_len 0 8)
 
--- the tiles that the n-th entry fills, by level
+-- the tiles that the n-th entry completes, by level
 abbrev pub filled_tiles : ℕ → List Tile
 filled_tiles n = map (λ level. full_tile level (n / 256 ^ (level + 1) - 1)) (filled_levels n)
 
--- the full tiles that the last of the entries fills, with their bytes
+-- the full tiles that the last of the entries completes, with their bytes
 abbrev pub shown_filled : Digest → List Bytes → List (Tile × Bytes)
 shown_filled H entries = map (shown H entries) (filled_tiles (length entries))
 
--- the full tiles that the entries after the first `from` fill, with their bytes: those of each in turn
+-- the full tiles that the entries after the first `from` complete, with their bytes: those of each entry in turn
 abbrev pub shown_since : Digest → ℕ → List Bytes → List (Tile × Bytes)
 shown_since H from entries =
     flat_map (λ count. shown_filled H (take count entries)) (range_with_len (from + 1) (length entries - from))
@@ -46,7 +46,7 @@ hashes_below H entries (suc level) =
     map (λ place. tree_hash H (entries_under level place entries)) (range_with_len (count / 256 * 256) (count % 256))
     ++ hashes_below H entries level
 
--- how many these are for so many entries
+-- the number of these hashes for a size
 unfoldable pub count_below : ℕ → ℕ → ℕ
 count_below size zero = 0
 count_below size (suc level) = level_count size level % 256 + count_below size level
@@ -55,7 +55,7 @@ count_below size (suc level) = level_count size level % 256 + count_below size l
 pub record EdgeContents : Type 0 where
   pub size : ℕ
   pub kept : List Bytes
-  -- how many hashes there is memory for
+  -- the number of hashes that there is memory for
   pub room : ℕ
 
 -- the edge has the size of these entries, fewer than 2 ^ 32, and the hashes of their partial tiles under this digest

@@ -20,7 +20,7 @@ IsLast t text fetched = (before : List (Tile × Bytes)) × (fetched ≡ before +
 abbrev pub HasBadLength : List (Tile × Bytes) → Tile → Type 0
 HasBadLength fetched t = (text : Bytes) × IsLast t text fetched × (length text ≢ 32 * t.width)
 
--- all partial tiles were fetched, and no others, and fold to another root; this one is the highest
+-- all partial tiles and no others were fetched, and they fold to another root; this one is the highest
 pub record IsBadEdge (H : Digest) (size : ℕ) (root : Bytes) (fetched : List (Tile × Bytes)) (t : Tile) : Type 0 where
   pub other : Bytes
   pub strings : List Bytes
@@ -43,7 +43,8 @@ pub record IsBadFull (H : Digest) (size : ℕ) (fetched : List (Tile × Bytes)) 
   pub folds : IsTileHash H text hash strings
   pub differ : own ≢ hash
 
--- a tile of the log among those fetched that is not one that the root was made with
+-- a fetched tile of the log that the root doesn't confirm: it has a bad length, or is the highest of partial tiles
+-- that fold to another root, or is a full one that folds to another hash than the tile above has for it
 pub record IsBadTile (H : Digest) (size : ℕ) (root : Bytes) (fetched : List (Tile × Bytes)) (t : Tile) : Type 0 where
   pub of_log : IsTileOf size t
   pub because : HasBadLength fetched t ⊎ (IsBadEdge H size root fetched t ⊎ IsBadFull H size fetched t)
@@ -54,7 +55,7 @@ pub record IsLacking (H : Digest) (may_lack : Tile → Type 0) (size : ℕ) (roo
   pub of_log : IsTileOf size t
   pub next : ComesNext H size root fetched t
 
--- what a fault of a read with all numbers in range says of the tiles that were fetched
+-- what a fault of a read whose numbers are all in range says of the fetched tiles
 abbrev pub GivesReadFault : Digest → (Tile → Type 0) → ℕ → Bytes → List (Tile × Bytes) → ReadFault → Type 0
 GivesReadFault H may_lack size root fetched OutOfRange = ⊥
 GivesReadFault H may_lack size root fetched Source = (t : Tile) × IsLacking H may_lack size root fetched t
@@ -62,12 +63,12 @@ GivesReadFault H may_lack size root fetched OutOfMemory = Unit {0}
 GivesReadFault H may_lack size root fetched (BadTile level index width) =
     IsBadTile H size root fetched (record { level = level; index = index; width = width })
 
--- a read over this source may give this fault: for some tiles that the source may answer
+-- a read over this source may fail with this fault, for some tiles that the source may return
 abbrev pub MayGive : Digest → (Tile → Bytes → Type 0) → (Tile → Type 0) → ℕ → Bytes → ReadFault → Type 0
 MayGive H may_answer may_lack size root fault =
     (fetched : List (Tile × Bytes)) × AreAnswers may_answer size fetched × GivesReadFault H may_lack size root fetched fault
 
--- a source that has each tile over the entries gives no fault but want of memory
+-- a read over a source that has each tile over the entries fails only if memory runs out
 abbrev pub HonestSourceIsRead : (Tile → Bytes → Type 0) → (Tile → Type 0) → Type 0
 HonestSourceIsRead may_answer may_lack =
     (H : Digest) → ((message : Bytes) → length (H message) ≡ 32)

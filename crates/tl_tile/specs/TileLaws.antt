@@ -1,4 +1,4 @@
--- What holds of tiles by their definitions alone.
+-- Laws of tiles over their definitions.
 use Rattle.std.specs.Prelude.{◌≡◌, List, Some}
 use Rattle.tl_hash.specs.Bytes.{Bytes, Digest}
 use Rattle.tl_tile.specs.declared.resource.Tile.{Tile}

@@ -20,7 +20,7 @@ pub record Against (S : Type 0) : Type 0 where
   pub size : ℕ
   pub root : Bytes
 
--- one read: what tiles are checked against, the numbers that were asked for, and the tiles that were fetched
+-- one read: the size and root that tiles are checked against, the numbers that were asked for, and the fetched tiles
 pub record Reading : Type 0 where
   pub size : ℕ
   pub root : Bytes
@@ -33,15 +33,15 @@ stored_hashes H entries read = map (stored_hash H entries) read.indexes
 
 -- authenticated hashes
 pub record AreAuthentic (H : Digest) (read : Reading) (hashes : List Bytes) : Type 0 where
-  -- they are the stored hashes of each list of this size and root, or an input of the list and a string that was hashed
-  -- for these tiles collide
+  -- they are the stored hashes of each list of this size and root, or an input of the list and a string that was
+  -- hashed for these tiles collide
   pub stored : (entries : List Bytes) → length entries ≡ read.size → tree_hash H entries ≡ read.root
       → (hashes ≡ stored_hashes H entries read) ⊎ TilesCollide H (tiles_of read.fetched) read.size entries
-  -- where these tiles are the tiles over a list, they are its stored hashes
+  -- if these tiles are the tiles over a list, they are its stored hashes
   pub honest : (entries : List Bytes) → length entries ≡ read.size → AreHonest H (tiles_of read.fetched) entries
       → hashes ≡ stored_hashes H entries read
 
--- authenticated hashes of a read that fetched some tiles that the source may answer
+-- authenticated hashes of a read that fetched some tiles that the source may return
 abbrev pub AreAuthenticOver : (Tile → Bytes → Type 0) → Digest → ℕ → Bytes → List ℕ → List Bytes → Type 0
 AreAuthenticOver may_answer H size root indexes hashes =
     (fetched : List (Tile × Bytes)) × AreAnswers may_answer size fetched
@@ -60,7 +60,7 @@ abbrev pub LacksNeeded : Digest → (Tile → Type 0) → Reading → Type 0
 LacksNeeded H may_lack read =
     (t : Tile) × IsLacking H (λ t. may_lack t × IsNeededFor read.size read.indexes t) read.size read.root read.fetched t
 
--- what a fault of a read says of its numbers and of the tiles that were there before it and are now
+-- what a fault of a read says of its numbers, and of the fetched tiles before it and after it
 abbrev pub GivesFaultAfter : Digest → (Tile → Type 0) → List (Tile × Bytes) → Reading → ReadFault → Type 0
 GivesFaultAfter H may_lack before read OutOfRange = AsksTooFar read × (read.fetched ≡ before)
 GivesFaultAfter H may_lack before read Source = IsAsking read × LacksNeeded H may_lack read
@@ -68,12 +68,12 @@ GivesFaultAfter H may_lack before read OutOfMemory = IsAsking read
 GivesFaultAfter H may_lack before read (BadTile level index width) =
     IsAsking read × IsBadTile H read.size read.root read.fetched (record { level = level; index = index; width = width })
 
--- the same of a read before which there were none
+-- what a fault of a read says if no tiles were fetched before it
 abbrev pub GivesNumbersFault : Digest → (Tile → Type 0) → Reading → ReadFault → Type 0
 GivesNumbersFault H may_lack read fault = GivesFaultAfter H may_lack [] read fault
 
--- the reader stands for the lists of its size and root, under its own digest function, no input of which collides with
--- a string that is hashed for tiles that the source may answer
+-- the reader stands for the lists of its size and root, under its own digest function, if no input of the list
+-- collides with a string that is hashed for tiles that the source may return
 abbrev pub StandsAgainst : Digest → (Tile → Bytes → Type 0) → ℕ → Bytes → Digest → List Bytes → Type 0
 StandsAgainst own may_answer size root H entries =
     (length entries ≡ size) × (length entries ≤ 2 ^ 62) × (H ≡ own) × (tree_hash H entries ≡ root)

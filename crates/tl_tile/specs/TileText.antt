@@ -13,12 +13,12 @@ level_count size level = size / 256 ^ level
 abbrev pub entries_under : ℕ → ℕ → List Bytes → List Bytes
 entries_under level place entries = take (256 ^ level) (drop (place * 256 ^ level) entries)
 
--- so many hashes of a level, from a place on
+-- `count` hashes of a level, from a place on
 abbrev pub level_hashes : Digest → ℕ → ℕ → ℕ → List Bytes → Bytes
 level_hashes H level place count entries =
     flat_map (λ i. tree_hash H (entries_under level (place + i) entries)) (range_with_len 0 count)
 
--- the bytes of a tile: its hashes, one after the other
+-- the bytes of a tile: its hashes, one after another
 abbrev pub tile_text : Digest → Tile → List Bytes → Bytes
 tile_text H t entries = level_hashes H t.level (t.index * 256) t.width entries
 
@@ -26,12 +26,12 @@ tile_text H t entries = level_hashes H t.level (t.index * 256) t.width entries
 abbrev pub full_tile : ℕ → ℕ → Tile
 full_tile level index = record { level = level; index = index; width = 256 }
 
--- the partial tile of a level: the hashes after its last full tile; where there are none its width is 0
+-- the partial tile of a level: the hashes after its last full tile; if there are none, its width is 0
 abbrev pub partial_tile : ℕ → ℕ → Tile
 partial_tile size level =
     record { level = level; index = level_count size level / 256; width = level_count size level % 256 }
 
--- the tile that has the hash at this place of a level
+-- the tile with the hash at this place of a level
 abbrev pub tile_with : ℕ → ℕ → ℕ → Tile
 tile_with size level place =
     if nat_lt (place / 256) (level_count size level / 256) then full_tile level (place / 256)

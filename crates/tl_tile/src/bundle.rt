@@ -1,4 +1,4 @@
-//! Entry bundles: entries one after the other, each with its length in front (C2SP tlog-tiles, "Log Entries").
+//! Entry bundles: entries one after another, each after its length (C2SP tlog-tiles, "Log Entries").
 
 ghost use Rattle.std.specs.Prelude.{◌≡◌, ◌+◌, ◌<◌, ◌≤◌, ◌^◌, ◌++◌, length, OnOk, OnErr, IfOk, IsOk, MatchOption, MatchBool, Any, map, vec_items, vec_len, vec_capacity};
 ghost use Rattle.tl_tile.specs.Bundle.{most_entry, bundled_entry, bundle_text, IsShortEntry, AreShortEntries, AreEntries, IsBundle, IsPartialEntry};
@@ -8,19 +8,19 @@ ghost use Rattle.tl_tile.specs.declared.bundle.BundleFault.TheVariants.{OutOfMem
 use std::alloc::{AllocError, AllocFailed, Allocator};
 use thiserror::Error;
 
-/// The most bytes of an entry, whose length a bundle has in 16 bits (C2SP tlog-tiles, "Log Entries").
+/// The length of the longest entry, in bytes: a bundle has it in 16 bits (C2SP tlog-tiles, "Log Entries").
 pub const LONGEST_ENTRY: usize = 65_535;
 
-/// Why a bundle could not be written or read, in the order in which the refusals are checked.
+/// The reasons why a bundle can't be written or read, in the order in which they are checked.
 #[derive(Clone, Copy, Debug, PartialEq, Eq, Error)]
 pub enum BundleFault {
     /// An entry has more than 65,535 bytes.
     #[error("an entry is longer than 65535 bytes")]
     EntryTooLong,
-    /// The bytes end within the bundle, that is, they are the beginning of a bundle of this width, and not all of it.
+    /// The bytes end within the bundle: they are the beginning of a bundle of this width, and not all of it.
     #[error("the entry bundle is truncated")]
     Truncated,
-    /// The bytes go on past a bundle of this width.
+    /// The bytes go on after a bundle of this width.
     #[error("bytes follow the entry bundle")]
     Trailing,
     /// Memory ran out.
@@ -44,9 +44,9 @@ impl<X: Drop> From<AllocFailed<X>> for BundleFault {
     }
 }
 
-/// Puts an entry of at most 65,535 bytes behind a bundle: its length in 16 bits, big-endian, and its bytes (C2SP
-/// tlog-tiles, "Log Entries"). It is refused for want of memory alone, which leaves the bundle as it was, and not where
-/// the bundle has room for the entry and two bytes more.
+/// Appends an entry of at most 65,535 bytes to a bundle: its length in 16 bits, big-endian, and its bytes (C2SP
+/// tlog-tiles, "Log Entries"). If allocation fails, the bundle doesn't change. It allocates only if the bundle has no
+/// room for the entry and two more bytes.
 pub fn push_entry<A: Allocator>(bundle: &mut Vec<u8, A>, entry: &[u8]) -> Result<(), AllocError>
     requires { IsShortEntry entry.now }
     ensures pushed { OnOk result (bundle.new.items ≡ bundle.old.items ++ bundled_entry entry.now) }
@@ -62,7 +62,7 @@ pub fn push_entry<A: Allocator>(bundle: &mut Vec<u8, A>, entry: &[u8]) -> Result
     Ok(())
 }
 
-// Whether each entry has at most `LONGEST_ENTRY` bytes.
+// Reports whether each entry has at most `LONGEST_ENTRY` bytes.
 fn are_short<B: Allocator>(entries: &[Vec<u8, B>]) -> bool
     ensures { MatchBool result
         (AreShortEntries (map vec_items entries.now))
@@ -76,7 +76,7 @@ fn are_short<B: Allocator>(entries: &[Vec<u8, B>]) -> bool
     true
 }
 
-// The entries, each with its length in front.
+// Returns the entries one after another, each after its length.
 fn join_entries<A: Allocator, B: Allocator>(
     alloc: A,
     entries: &[Vec<u8, B>],
@@ -91,9 +91,9 @@ fn join_entries<A: Allocator, B: Allocator>(
     Ok(out)
 }
 
-/// The bundle of these 1 to 256 entries: each as its length, in 16 bits, big-endian, and its bytes (C2SP tlog-tiles,
-/// "Log Entries"). It fails with `EntryTooLong` exactly where an entry has more than 65,535 bytes, before it asks for
-/// memory, and with `OutOfMemory` where memory is refused.
+/// Returns the bundle of these 1 to 256 entries: each is its length in 16 bits, big-endian, and its bytes (C2SP
+/// tlog-tiles, "Log Entries"). It fails with `EntryTooLong`, before it allocates, exactly if an entry has more than
+/// 65,535 bytes, and with `OutOfMemory` if allocation fails.
 pub fn write_bundle<A: Allocator, B: Allocator>(
     alloc: A,
     entries: &[Vec<u8, B>],
@@ -109,7 +109,7 @@ pub fn write_bundle<A: Allocator, B: Allocator>(
     Ok(text)
 }
 
-// The first entry, and the bytes after it.
+// Returns the first entry, and the bytes after it.
 fn first_entry(bytes: &[u8]) -> Option<(&[u8], &[u8])>
     ensures { MatchOption result (IsPartialEntry bytes.now)
         (λ x. IsShortEntry x.0.now × (bytes.now ≡ bundled_entry x.0.now ++ x.1.now)) }
@@ -125,7 +125,7 @@ fn first_entry(bytes: &[u8]) -> Option<(&[u8], &[u8])>
     Some(rest.split_at(len))
 }
 
-// Checks that the bytes are a bundle of so many entries. It takes no memory.
+// Checks that the bytes are a bundle of this many entries. It allocates nothing.
 fn check_bundle(bytes: &[u8], width: u32) -> Result<(), BundleFault>
     ensures { ChecksBundle bytes.now width result }
 {
@@ -142,7 +142,7 @@ fn check_bundle(bytes: &[u8], width: u32) -> Result<(), BundleFault>
     Ok(())
 }
 
-// The entries of a bundle of so many.
+// Returns the entries of a bundle that has this many.
 fn split_bundle<A: Allocator + Copy>(
     alloc: A,
     bytes: &[u8],
@@ -165,10 +165,10 @@ fn split_bundle<A: Allocator + Copy>(
     Ok(entries)
 }
 
-/// The entries of a bundle of `width` entries, from 1 to 256 (C2SP tlog-tiles, "Log Entries"). It fails with
-/// `Truncated` exactly where the bytes are the beginning of such a bundle and not all of it, and with `Trailing`
-/// exactly where such a bundle is the beginning of the bytes and not all of them, before it asks for memory; with
-/// `OutOfMemory` where memory is refused.
+/// Returns the entries of a bundle of `width` entries, from 1 to 256 (C2SP tlog-tiles, "Log Entries"). Before it
+/// allocates, it fails with `Truncated` exactly if the bytes are the beginning of such a bundle and not all of it,
+/// and with `Trailing` exactly if such a bundle is the beginning of the bytes and not all of them. It fails with
+/// `OutOfMemory` if allocation fails.
 pub fn read_bundle<A: Allocator + Copy>(
     alloc: A,
     bytes: &[u8],

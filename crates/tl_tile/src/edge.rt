@@ -20,8 +20,8 @@ use std::marker::Model;
 use tl_hash::{Hash, TreeHash, empty_hash, leaf_hash};
 
 /// The right edge of a log: the number of its entries and the hashes of the partial tiles of that size (C2SP
-/// tlog-tiles, "Partial Tiles"), at most 255 for each level, and nothing else. Contracts see the size, the kept hashes
-/// and how many there is memory for.
+/// tlog-tiles, "Partial Tiles"), at most 255 for each level, and nothing else. Contracts see the size, the kept
+/// hashes, and how many hashes there is memory for.
 #[derive(Drop)]
 pub struct Edge<T: TreeHash, A: Allocator> {
     digest: T,
@@ -40,7 +40,7 @@ impl<T: TreeHash, A: Allocator> Model for Edge<T, A> {
     ghost invariant = { λ e. (length e.kept.items ≡ count_below e.size 8) × (e.size < 2 ^ 32) };
 }
 
-// How many hashes are kept for the levels below this one.
+// Returns the number of hashes that are kept for the levels below this one.
 fn count_of(size: u64, level: u32) -> usize
     requires { level ≤ 8 }
     ensures { result ≡ count_below size level }
@@ -54,7 +54,7 @@ fn count_of(size: u64, level: u32) -> usize
     kept
 }
 
-// The tree hash over the kept hashes, from the lowest level up; none of no entries.
+// Returns the tree hash over the kept hashes, from the lowest level up, or `None` for no entries.
 fn root_of<T: TreeHash>(h: T, kept: &[Hash], size: u64) -> Option<Hash>
     requires small { size < 2 ^ 32 }
     requires counted { length kept.now ≡ count_below size 8 }
@@ -76,7 +76,7 @@ fn root_of<T: TreeHash>(h: T, kept: &[Hash], size: u64) -> Option<Hash>
 }
 
 impl<T: TreeHash, A: Allocator + Copy> Edge<T, A> {
-    /// The edge of a log with no entries, whose hashes `h` makes. It takes no memory.
+    /// Returns the edge of a log with no entries, which hashes with `h`. It allocates nothing.
     pub fn new(alloc: A, h: T) -> Edge<T, A>
         ensures { IsEdgeOf result T.digest_of [] }
     {
@@ -87,14 +87,14 @@ impl<T: TreeHash, A: Allocator + Copy> Edge<T, A> {
         }
     }
 
-    /// The number of entries.
+    /// Returns the number of entries.
     pub fn size(&self) -> u64
         ensures { result ≡ self.now.size }
     {
         self.size
     }
 
-    /// The tree hash of the entries (RFC 6962, section 2.1). It takes no memory.
+    /// Returns the tree hash of the entries (RFC 6962, section 2.1). It allocates nothing.
     pub fn root(&self) -> Hash
         ensures { (entries : List Bytes)
             → IsEdgeOf self.now T.digest_of entries
@@ -106,9 +106,9 @@ impl<T: TreeHash, A: Allocator + Copy> Edge<T, A> {
         }
     }
 
-    /// The partial tile of a level with its bytes, or `None` where the level has none. `level` is from 0 to 7; there
-    /// are no partial tiles above level 3. It fails only where memory is refused, and asks for none where there is no
-    /// such tile.
+    /// Returns the partial tile of a level with its bytes, or `None` if the level has none. `level` is from 0 to 7;
+    /// there are no partial tiles above level 3. It fails only if allocation fails, and allocates only if there is
+    /// such a tile.
     pub fn partial(&self, level: u32) -> Result<Option<(Tile, Vec<u8, A>)>, AllocError>
         requires { level ≤ 7 }
         ensures tile { (entries : List Bytes)
@@ -135,10 +135,10 @@ impl<T: TreeHash, A: Allocator + Copy> Edge<T, A> {
         Ok(Some((tile, bytes)))
     }
 
-    /// Adds one entry at the end, and gives the full tiles that it completes with their bytes, by level: those that a
-    /// log serves with this entry and didn't serve before. The edge takes up to 2^32 - 1 entries. An entry costs one
-    /// leaf hash, and 255 node hashes for each tile that it completes. It fails only where the edge has no room for
-    /// one hash more, or where the entry completes a tile and memory is refused for it; the edge then stays as it was.
+    /// Appends an entry, and returns the full tiles that it completes with their bytes, by level: those that a log
+    /// serves with this entry and didn't serve before. The edge takes up to 2^32 - 1 entries. An entry costs one leaf
+    /// hash, and 255 node hashes for each tile that it completes. If allocation fails, the edge doesn't change; it
+    /// allocates only if there is no room for one more hash, or if the entry completes a tile.
     pub fn append(&mut self, entry: &[u8]) -> Result<Vec<(Tile, Vec<u8, A>), A>, AllocError>
         requires { self.old.size < 2 ^ 32 - 1 }
         ensures entry { (entries : List Bytes)
@@ -163,9 +163,9 @@ impl<T: TreeHash, A: Allocator + Copy> Edge<T, A> {
         Ok(filled.tiles)
     }
 
-    /// Adds entries at the end, as so many calls of `append` do, and gives all the full tiles that those calls give,
-    /// in their order. It hashes four entries side by side. The edge takes up to 2^32 - 1 entries in all. It fails only
-    /// where memory is refused, and asks for none where there are no entries; the edge then stays as it was.
+    /// Appends entries, as calls of `append` do one by one, and returns all full tiles that these return, in the same
+    /// order. It hashes four entries side by side. The edge takes up to 2^32 - 1 entries in all. If allocation fails,
+    /// the edge doesn't change; for no entries nothing is allocated.
     pub fn append_all<B: Allocator>(
         &mut self,
         entries: &[Vec<u8, B>],
@@ -192,8 +192,8 @@ impl<T: TreeHash, A: Allocator + Copy> Edge<T, A> {
         Ok(tiles)
     }
 
-    /// Adds one entry at the end, as `append` does, and makes no tiles. It fails only where the edge has no room for
-    /// one hash more; the edge then stays as it was.
+    /// Appends an entry, as `append` does, and makes no tiles. If allocation fails, the edge doesn't change; it
+    /// allocates only if there is no room for one more hash.
     pub fn push(&mut self, entry: &[u8]) -> Result<(), AllocError>
         requires { self.old.size < 2 ^ 32 - 1 }
         ensures entry { (entries : List Bytes)
@@ -209,8 +209,8 @@ impl<T: TreeHash, A: Allocator + Copy> Edge<T, A> {
         Ok(())
     }
 
-    /// Adds four entries at the end, as four calls of `push` do, and hashes them side by side. It fails only where the
-    /// edge has no room for four hashes more; the edge then stays as it was.
+    /// Appends four entries, as four calls of `push` do, and hashes them side by side. If allocation fails, the edge
+    /// doesn't change; it allocates only if there is no room for four more hashes.
     pub fn push_four(
         &mut self,
         first: &[u8],
@@ -235,9 +235,9 @@ impl<T: TreeHash, A: Allocator + Copy> Edge<T, A> {
         Ok(())
     }
 
-    /// Adds the 256 entries of a tile at the end, as so many calls of `push` do, where the edge has no partial tile of
-    /// level 0. Entries that SHA-256 pads to equally many blocks are hashed side by side. It fails only where the edge
-    /// has no room for one hash more; the edge then stays as it was.
+    /// Appends the 256 entries of a tile, as 256 calls of `push` do. The edge must have no partial tile of level 0.
+    /// Entries that SHA-256 pads to the same number of blocks are hashed side by side. If allocation fails, the edge
+    /// doesn't change; it allocates only if there is no room for one more hash.
     pub fn push_tile(&mut self, entries: &[&[u8]; 256]) -> Result<(), AllocError>
         requires whole { self.old.size % 256 ≡ 0 }
         requires small { self.old.size + 256 < 2 ^ 32 }
@@ -253,7 +253,7 @@ impl<T: TreeHash, A: Allocator + Copy> Edge<T, A> {
         Ok(())
     }
 
-    /// The same edge once more: its size, its hashes and their digest. It fails only where memory is refused.
+    /// Returns a copy of the edge: its size, its hashes and their digest function. It fails only if allocation fails.
     pub fn copy(&self) -> Result<Edge<T, A>, AllocError>
         ensures size { IfOk result (λ edge. edge.size ≡ self.now.size) }
         ensures kept { IfOk result (λ edge. edge.kept ≡ self.now.kept) }
@@ -265,7 +265,7 @@ impl<T: TreeHash, A: Allocator + Copy> Edge<T, A> {
         })
     }
 
-    // Adds entries, and the tiles that they fill to those that are there.
+    // Appends entries, and adds the tiles that they complete to `tiles`.
     fn append_each<B: Allocator>(
         &mut self,
         entries: &[Vec<u8, B>],
@@ -282,7 +282,8 @@ impl<T: TreeHash, A: Allocator + Copy> Edge<T, A> {
         Ok(())
     }
 
-    // Adds the first of some entries, as `append_each` does: four, or one where there are fewer. Gives how many.
+    // Appends the first of some entries, as `append_each` does: four of them, or one if there are fewer. Returns how
+    // many.
     fn append_some<B: Allocator>(
         &mut self,
         entries: &[Vec<u8, B>],
@@ -305,7 +306,7 @@ impl<T: TreeHash, A: Allocator + Copy> Edge<T, A> {
         Ok(1)
     }
 
-    // Adds four entries, as `append_each` does.
+    // Appends four entries, as `append_each` does.
     fn append_four(
         &mut self,
         first: &[u8],
@@ -326,7 +327,7 @@ impl<T: TreeHash, A: Allocator + Copy> Edge<T, A> {
         Ok(())
     }
 
-    // Adds an entry by its leaf hash, as `append_each` does.
+    // Appends an entry by its leaf hash, as `append_each` does.
     fn append_leaf(
         &mut self,
         leaf: Hash,
@@ -345,7 +346,7 @@ impl<T: TreeHash, A: Allocator + Copy> Edge<T, A> {
         Ok(())
     }
 
-    // Adds an entry by its leaf hash, where the edge has room for one hash more.
+    // Appends an entry by its leaf hash. The edge must have room for one more hash.
     fn push_leaf(&mut self, leaf: Hash)
         requires size { self.old.size < 2 ^ 32 - 1 }
         requires room { length self.old.kept < self.old.room }
@@ -364,7 +365,7 @@ impl<T: TreeHash, A: Allocator + Copy> Edge<T, A> {
         self.keep(filled.left, filled.hash, 1);
     }
 
-    // Puts one hash in the place of all that are kept after so many, for this many entries more.
+    // Keeps the first `left` hashes and then `hash` in place of all others, for `more` further entries.
     fn keep(&mut self, left: usize, hash: Hash, more: u64)
         requires small { self.old.size + more < 2 ^ 32 }
         requires within { left ≤ length self.old.kept }

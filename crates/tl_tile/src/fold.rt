@@ -1,4 +1,4 @@
-//! What hashes that stand side by side fold to: one hash, and the full tiles that an entry completes.
+//! Folding neighbouring hashes into one hash, and the full tiles that an entry completes.
 
 ghost use Rattle.std.specs.Prelude.{◌≡◌, ◌<◌, ◌+◌, ◌*◌, ℕ, List, ◌≤◌, ◌-◌, ◌%◌, ◌^◌, [], ◌∷◌, ◌++◌, length, take, IsTrue, IfOk, OnOk, OnErr};
 ghost use Rattle.tl_hash.specs.Bytes.{Bytes};
@@ -17,7 +17,7 @@ use crate::tile::{full_tile, join};
 use std::alloc::{AllocError, Allocator};
 use tl_hash::{Hash, TreeHash, node_hash, split_point};
 
-// The hash over subtrees of one width side by side, and a last one after them that is no wider.
+// Returns the hash over subtrees of one width, from left to right, and a last one after them that is no wider.
 pub(crate) fn fold_run<T: TreeHash>(h: T, hashes: &[Hash], last: Hash) -> Hash
     ensures { (entries : List Bytes) (run : Run)
         → IsRun T.digest_of entries run hashes.now last
@@ -32,7 +32,7 @@ pub(crate) fn fold_run<T: TreeHash>(h: T, hashes: &[Hash], last: Hash) -> Hash
     node_hash(h, left, right)
 }
 
-// What the hashes of a level's partial tile add to the hash of what is below them.
+// Returns the hash over the hashes of a level's partial tile and the hash of what is below them.
 pub(crate) fn fold_level<T: TreeHash>(h: T, hashes: &[Hash], below: Option<Hash>) -> Option<Hash>
     ensures { (entries : List Bytes) (level : ℕ)
         → hashes.now ≡ partial_hashes T.digest_of entries level
@@ -48,8 +48,8 @@ pub(crate) fn fold_level<T: TreeHash>(h: T, hashes: &[Hash], below: Option<Hash>
     }
 }
 
-// What one full place more makes of the kept hashes: the tiles that are full with it, with their bytes, and one hash
-// that takes the place of all kept hashes after so many.
+// What changes in the kept hashes when one more subtree is full: the tiles that this completes, with their bytes, and
+// one hash that takes the place of all kept hashes after the first `left`.
 #[derive(Drop)]
 pub(crate) struct Filled<A: Allocator> {
     pub(crate) tiles: Vec<(Tile, Vec<u8, A>), A>,
@@ -57,7 +57,7 @@ pub(crate) struct Filled<A: Allocator> {
     pub(crate) hash: Hash,
 }
 
-// The bytes of these hashes and a last one.
+// Returns the bytes of these hashes and a last one.
 fn join_with<A: Allocator>(alloc: A, hashes: &[Hash], last: Hash) -> Result<Vec<u8, A>, AllocError>
     ensures { IfOk result
         (λ bytes. bytes.items ≡ flat_map (λ hash. hash) (hashes.now ++ last ∷ [])) }
@@ -67,7 +67,7 @@ fn join_with<A: Allocator>(alloc: A, hashes: &[Hash], last: Hash) -> Result<Vec<
     Ok(bytes)
 }
 
-// Adds the tile of these hashes and a last one, if tiles are wanted.
+// Adds the tile of these hashes and a last one if `wanted`.
 fn push_tile<A: Allocator + Copy>(
     tiles: &mut Vec<(Tile, Vec<u8, A>), A>,
     wanted: bool,
@@ -87,8 +87,8 @@ fn push_tile<A: Allocator + Copy>(
     Ok(())
 }
 
-// What one full place more of the level `lowest`, whose hash is `root`, makes of the hashes kept for the `size` entries
-// before it. An entry is a place of level 0. The tiles are made if they are wanted.
+// Returns what changes in the hashes kept for `size` entries when one more subtree of the level `lowest`, with the
+// hash `root`, comes after them. At level 0 it is one entry. The tiles are made only if `wanted`.
 pub(crate) fn fill<T: TreeHash, A: Allocator + Copy>(
     alloc: A,
     h: T,

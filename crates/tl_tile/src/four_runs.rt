@@ -9,7 +9,7 @@ ghost use Rattle.tl_tile.specs.Inner.FoldsTo.{FoldsTo};
 
 use tl_hash::{Hash, TreeHash, hash_level, leaf_hashes, node_hash, split_point};
 
-// What the hashes of four runs of one length fold to: the recursion of `fold_run`, down the four in step.
+// Returns the hashes that four runs of one length fold to: the recursion of `fold_run`, down the four in step.
 fn fold_four<T: TreeHash>(h: T, a: &[Hash], b: &[Hash], c: &[Hash], d: &[Hash]) -> [Hash; 4]
     requires some { 0 < length a.now }
     requires b { length b.now ≡ length a.now }
@@ -29,7 +29,7 @@ fn fold_four<T: TreeHash>(h: T, a: &[Hash], b: &[Hash], c: &[Hash], d: &[Hash]) 
     hash_level(h, &left, &right)
 }
 
-// What four times `quarter` hashes of a run fold to, by their quarters side by side.
+// Returns the hash that `4 * quarter` hashes of a run fold to. Its quarters are folded side by side.
 fn fold_quarters<T: TreeHash>(h: T, hashes: &[Hash], quarter: usize) -> Hash
     requires whole { length hashes.now ≡ 4 * quarter }
     requires power { IsPowerOfTwo quarter }
@@ -45,7 +45,7 @@ fn fold_quarters<T: TreeHash>(h: T, hashes: &[Hash], quarter: usize) -> Hash
     node_hash(h, first, second)
 }
 
-// The hash over the 256 hashes of a full tile, of which the last is apart.
+// Returns the hash over the 256 hashes of a full tile, the last of which is given apart.
 pub(crate) fn fold_full<T: TreeHash>(h: T, hashes: &[Hash], last: Hash) -> Hash
     requires { length hashes.now ≡ 255 }
     ensures { (entries : List Bytes) (run : Run)
@@ -57,7 +57,7 @@ pub(crate) fn fold_full<T: TreeHash>(h: T, hashes: &[Hash], last: Hash) -> Hash
     fold_quarters(h, &all, 64)
 }
 
-/// The tree hash of the 256 entries of a tile (RFC 6962, section 2.1).
+/// Returns the tree hash of the 256 entries of a tile (RFC 6962, section 2.1).
 pub(crate) fn tile_root<T: TreeHash>(h: T, entries: &[&[u8]; 256]) -> Hash
     ensures { result ≡ tree_hash T.digest_of (map (λ entry. entry.now) entries.now) }
 {

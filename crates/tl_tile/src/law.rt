@@ -1,4 +1,4 @@
-//! What holds of entry bundles, of tiles and of sources of tiles by their definitions.
+//! Laws of entry bundles, of tiles and of sources of tiles.
 
 ghost use Rattle.tl_hash.specs.Tree.{tree_hash};
 ghost use Rattle.tl_store.specs.Stored.{stored_index, stored_hash};
@@ -26,27 +26,28 @@ pub fn bundle_has_one_reading()
         → IsTruncated bytes width → HasTrailing bytes width → ⊥ }
 {}
 
-/// The tiles that an entry fills are exactly the full tiles that a log needs with this entry and didn't need before it.
+/// The full tiles that an entry completes are exactly those that a log needs with this entry and didn't need before
+/// it.
 pub fn filled_tiles_are_new()
     ensures { (n : ℕ) (t : Tile) → Contains (filled_tiles (n + 1)) t
         ↔ ((t.width ≡ 256) × Contains (needed_resources (n + 1)) (resource.Tile t)
         × (Contains (needed_resources n) (resource.Tile t) → ⊥)) }
 {}
 
-/// What a log needs is what it needed when it was shorter, and what was added since, which it didn't need then.
+/// A log needs what it needed when it was shorter, and what was added since, which it didn't need then.
 pub fn needed_since_is_new()
     ensures { (from size : ℕ) → from ≤ size → (r : Resource) → IsNewSince from size r }
 {}
 
-/// Reading from a source that has each tile over the entries fails only where memory is refused.
+/// Reading from a source that has each tile over the entries fails only if memory runs out.
 pub fn honest_source_law<S: TileSource>(source: &S)
     ensures { HonestSourceIsRead (S.may_answer source.now) (S.may_lack source.now) }
 {
     let _ = source;
 }
 
-/// What the hashes of a subtree fold to in checked tiles is stored for each list of their size and root, or two
-/// different byte strings that were hashed have one digest.
+/// If tiles are checked, the hash that those of a subtree fold to is the stored hash of each list of their size and
+/// root, or two different byte strings that were hashed have one digest.
 pub fn checked_tiles_law()
     ensures { (H : Digest) → ((message : Bytes) → length (H message) ≡ 32) → (tiles : Tiles)
         (size : ℕ) (root : Bytes) → AreChecked H tiles size root → (level place : ℕ) (hash : Bytes)
@@ -55,8 +56,8 @@ pub fn checked_tiles_law()
         ≡ stored_hash H entries (stored_index level place)) ⊎ TilesCollide H tiles size entries }
 {}
 
-/// The tiles over a list of entries fold to its root, each full one to the hash that the tile above has for it, and the
-/// hashes of each subtree to its stored hash.
+/// The tiles over a list of entries fold to its root. Each full one folds to the hash that the tile above has for it,
+/// and the hashes of each subtree to its stored hash.
 pub fn honest_tiles_law()
     ensures root { (H : Digest) → ((message : Bytes) → length (H message) ≡ 32)
         → (tiles : Tiles) (entries : List Bytes) → AreHonest H tiles entries
@@ -75,7 +76,7 @@ pub fn honest_tiles_law()
         → hash ≡ stored_hash H entries (stored_index level place) }
 {}
 
-/// Partial tiles fold to one root, and a full tile to one hash.
+/// Partial tiles fold to one root only, and a full tile to one hash only.
 pub fn folded_hashes_law()
     ensures { (H : Digest) (tiles : Tiles) (size : ℕ) (text hash other : Bytes)
         (strings others : List Bytes) → (IsEdgeRoot H tiles size hash strings

@@ -1,4 +1,4 @@
-//! Which resources a log of a size serves, and which it began to serve since it had another.
+//! The resources that a log of a size serves, and those that were added since another size.
 
 ghost use Rattle.std.specs.Prelude.{◌≡◌, ◌<◌, ◌≤◌, ◌+◌, ◌-◌, ◌*◌, ◌^◌, ◌++◌, OnOk, OnErr, IfOk};
 ghost use Rattle.tl_tile.specs.Needed.{bundle_width, tile_at, pieces_since, needed_resources, needed_resources_since};
@@ -7,7 +7,7 @@ ghost use Rattle.tl_tile.specs.declared.resource.Resource.TheVariants as resourc
 use crate::resource::{Resource, Tile};
 use std::alloc::{AllocError, Allocator};
 
-// Adds the tiles that a level of `count` hashes has, and had not when it had `from` of them.
+// Adds the tiles that a level of `count` hashes has and a level of `from` hashes hasn't.
 fn push_tiles<A: Allocator>(
     out: &mut Vec<Resource, A>,
     level: u32,
@@ -36,7 +36,7 @@ fn push_tiles<A: Allocator>(
     Ok(())
 }
 
-// Adds the bundles that a log of `size` entries has, and had not when it had `from` of them.
+// Adds the bundles that a log of `size` entries has and a log of `from` entries hasn't.
 fn push_bundles<A: Allocator>(
     out: &mut Vec<Resource, A>,
     from: u64,
@@ -59,9 +59,9 @@ fn push_bundles<A: Allocator>(
     Ok(())
 }
 
-/// The resources that a log of `size` entries serves beside its checkpoint (C2SP tlog-tiles): its tiles by level and
-/// then by index, and then its entry bundles by index; the partial one of a row stands last in it. `size` is at most
-/// 2^32 - 1. It fails only where memory is refused; a log of no entries needs nothing, and no memory.
+/// Returns the resources that a log of `size` entries serves besides its checkpoint (C2SP tlog-tiles): its tiles by
+/// level and then by index, and then its entry bundles by index. A partial one is the last of its row. `size` is at
+/// most 2^32 - 1. It fails only if allocation fails; for size 0 nothing is allocated.
 pub fn needed<A: Allocator>(alloc: A, size: u64) -> Result<Vec<Resource, A>, AllocError>
     requires { size ≤ 2 ^ 32 - 1 }
     ensures resources { IfOk result (λ resources. resources.items ≡ needed_resources size) }
@@ -70,9 +70,9 @@ pub fn needed<A: Allocator>(alloc: A, size: u64) -> Result<Vec<Resource, A>, All
     added_resources(alloc, 0, size)
 }
 
-/// The resources that a log of `size` entries serves and did not serve when it had `from`, at most as many: what a
-/// publication adds. They stand in the order of `needed`, and are found in the time that they take to be written down.
-/// `size` is at most 2^32 - 1. It fails only where memory is refused; where nothing was added it needs none.
+/// Returns the resources that a log of `size` entries serves and didn't serve with `from` entries, which are at most
+/// as many: what a publication adds, in the order of `needed`. The time it takes is that of writing them down. `size`
+/// is at most 2^32 - 1. It fails only if allocation fails; if nothing was added, nothing is allocated.
 pub fn added_resources<A: Allocator>(
     alloc: A,
     from: u64,
@@ -96,8 +96,8 @@ pub fn added_resources<A: Allocator>(
     Ok(listed)
 }
 
-/// How many entries the bundle with this index has in a log of `size` entries, which has such a bundle: 256, or in the
-/// last one what is left (C2SP tlog-tiles, "Log Entries").
+/// Returns the number of entries of the bundle with this index in a log of `size` entries, which must have it: 256,
+/// or the rest in the last one (C2SP tlog-tiles, "Log Entries").
 pub fn bundle_width(size: u64, bundle: u64) -> u32
     requires { 256 * bundle < size }
     ensures value { result ≡ bundle_width size bundle }

@@ -9,7 +9,7 @@ use crate::resource::{Resource, Tile};
 use itoa::Buffer;
 use std::alloc::{AllocError, Allocator};
 
-// A number below 1000 in three digits.
+// Returns a number below 1000 in three digits.
 fn digits(n: u64) -> [u8; 3]
     requires { n < 1000 }
     ensures { result ≡ three_digits n }
@@ -21,14 +21,14 @@ fn digits(n: u64) -> [u8; 3]
     ]
 }
 
-// The bytes after this beginning.
+// Returns the bytes after `front`, or `None` if they don't begin with it.
 fn after<'a>(bytes: &'a [u8], front: &[u8]) -> Option<&'a [u8]>
     ensures { Strips (λ rest. rest.now) bytes.now front.now result }
 {
     bytes.strip_prefix(front)
 }
 
-// The bytes after the leading groups of an index.
+// Returns the bytes after the leading groups of an index.
 fn after_groups(bytes: &[u8], n: u64) -> Option<&[u8]>
     ensures { Strips (λ rest. rest.now) bytes.now (leading_groups n) result }
 {
@@ -42,7 +42,7 @@ fn after_groups(bytes: &[u8], n: u64) -> Option<&[u8]>
     after(rest, &[b'x', a, b, c, b'/'])
 }
 
-// The bytes after an index.
+// Returns the bytes after an index.
 fn after_index(bytes: &[u8], index: u64) -> Option<&[u8]>
     ensures { Strips (λ rest. rest.now) bytes.now (index_text index) result }
 {
@@ -52,7 +52,7 @@ fn after_index(bytes: &[u8], index: u64) -> Option<&[u8]>
     after(rest, &digits(index % 1000))
 }
 
-// The number that the digits before the first dot write; other bytes are passed over. It stops growing past 2^56.
+// Returns the number that the digits before the first dot write. It skips other bytes, and stops growing past 2^56.
 fn number_before_dot(bytes: &[u8]) -> u64
     ensures { result ≡ leading_number 0 bytes.now }
 {
@@ -68,7 +68,7 @@ fn number_before_dot(bytes: &[u8]) -> u64
     n
 }
 
-// The width that the end of a path gives: 256 where nothing is left, else what stands after `.p/`.
+// Returns the width that the end of a path gives: 256 if nothing is left, and otherwise the number after `.p/`.
 fn width_of(bytes: &[u8]) -> Option<u32>
     ensures { MatchOption result (HasNoWidth bytes.now) (λ width. IsWidth bytes.now width) }
 {
@@ -88,7 +88,7 @@ fn width_of(bytes: &[u8]) -> Option<u32>
     Some(width as u32)
 }
 
-// An index and a width. The one text of the index that is read must stand at the front.
+// Returns an index and a width. The bytes must begin with the one text of this index.
 fn piece_of(bytes: &[u8]) -> Option<(u64, u32)>
     ensures { MatchOption result (HasNoPiece bytes.now)
         (λ piece. IsPiece bytes.now piece.0 piece.1) }
@@ -106,7 +106,7 @@ fn piece_of(bytes: &[u8]) -> Option<(u64, u32)>
     Some((index, width))
 }
 
-// The tile whose level, index and width stand after `tile/`.
+// Returns the tile whose level, index and width these bytes give, which follow `tile/`.
 fn tile_of(bytes: &[u8]) -> Option<Resource>
     ensures { MatchOption result (HasNoTile bytes.now) (λ resource. IsTilePath bytes.now resource) }
 {
@@ -128,9 +128,9 @@ fn tile_of(bytes: &[u8]) -> Option<Resource>
     }
 }
 
-/// The resource with this path, without a leading slash, or `None` where no resource has it. The level of a tile is
-/// from 0 to 7, each index is below 2^56, and each width from 1 to 256; a width of 256 has no suffix. It takes no
-/// memory.
+/// Returns the resource with this path, without a leading slash, or `None` if no resource has it. The level of a tile
+/// is from 0 to 7, each index is below 2^56, and each width from 1 to 256; a width of 256 has no suffix. It allocates
+/// nothing.
 #[tactic(auto, using(crate::proofs::OnePath::only_path))]
 pub fn parse_path(text: &str) -> Option<Resource>
     ensures found { IfSome result
@@ -166,7 +166,7 @@ fn push_three<A: Allocator>(out: &mut String<A>, n: u64) -> Result<(), AllocErro
     out.push((b'0' + (n % 10) as u8) as char)
 }
 
-// Adds a group that another follows.
+// Adds a group that isn't the last one.
 fn push_group<A: Allocator>(out: &mut String<A>, n: u64) -> Result<(), AllocError>
     requires { n < 1000 }
     ensures { OnOk result (string_bytes out.new ≡ string_bytes out.old ++ marked_group n) }
@@ -203,9 +203,9 @@ fn push_piece<A: Allocator>(out: &mut String<A>, index: u64, width: u32) -> Resu
     out.push_str(Buffer::new().format(width))
 }
 
-/// The path of a resource, without a leading slash (C2SP tlog-tiles): `tile/0/x001/234`, `tile/entries/000.p/7` or
-/// `checkpoint`. The level of a tile is from 0 to 7, each index is below 2^56, and each width from 1 to 256. It fails
-/// only where memory is refused.
+/// Returns the path of a resource, without a leading slash (C2SP tlog-tiles): `tile/0/x001/234`,
+/// `tile/entries/000.p/7` or `checkpoint`. The level of a tile is from 0 to 7, each index is below 2^56, and each
+/// width from 1 to 256. It fails only if allocation fails.
 pub fn path_of<A: Allocator>(alloc: A, resource: &Resource) -> Result<String<A>, AllocError>
     requires { IsResource resource.now }
     ensures { IfOk result (λ text. string_bytes text ≡ path_text resource.now) }

@@ -9,10 +9,10 @@ use std::alloc::{AllocError, AllocFailed, Allocator};
 use thiserror::Error;
 use tl_store::ReadFault;
 
-/// Why a tile could not be fetched.
+/// The reasons why a tile can't be fetched.
 #[derive(Clone, Copy, Debug, PartialEq, Eq, Error)]
 pub enum SourceFault {
-    /// The source has not got the tile.
+    /// The source doesn't have the tile.
     #[error("the tile is unavailable")]
     Unavailable,
     /// Memory ran out.
@@ -40,25 +40,25 @@ impl<X: Drop> From<AllocFailed<X>> for SourceFault {
     }
 }
 
-/// Fetches tiles of a log (C2SP tlog-tiles, "Merkle Tree"). Nothing is known of the bytes but what the source says that
-/// it may answer: it may lie.
+/// Fetches tiles of a log (C2SP tlog-tiles, "Merkle Tree"). A source may lie: contracts know of its bytes only what
+/// `may_answer` says.
 pub trait TileSource {
     ghost use Rattle.tl_tile.specs.declared.resource.Tile.{Tile};
     ghost use Rattle.tl_tile.specs.declared.source.SourceFault.TheVariants.{Unavailable};
 
-    /// Which bytes it may answer for a tile.
+    /// Whether it may return these bytes for a tile.
     ghost may_answer: { Self → Tile → Bytes → Type 0 };
 
-    /// Which tiles it may not have.
+    /// Whether it may lack a tile.
     ghost may_lack: { Self → Tile → Type 0 };
 
-    /// The bytes of a tile. `Unavailable` where the source has not got it.
+    /// Returns the bytes of a tile. It fails with `Unavailable` if the source doesn't have it.
     fn fetch<A: Allocator + Copy>(&self, alloc: A, tile: Tile) -> Result<Vec<u8, A>, SourceFault>
         ensures text { IfOk result (λ text. may_answer self.now tile text.items) }
         ensures lacks { IfErr result (λ fault. fault ≡ Unavailable → may_lack self.now tile) };
 }
 
-// This tile is not the one that the root was made with.
+// Returns the fault for a tile that the root doesn't confirm.
 pub(crate) fn bad_tile(tile: Tile) -> ReadFault
     ensures { result ≡ BadTile tile.level tile.index tile.width }
 {

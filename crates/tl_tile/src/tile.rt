@@ -15,7 +15,7 @@ use std::alloc::{AllocError, Allocator};
 use tl_hash::Hash;
 use tl_store::{HashReader, ReadFault, stored_index};
 
-// The number of each hash of the tile among the stored hashes.
+// Returns the numbers, among the stored hashes, of the hashes of the tile.
 fn numbers_of<A: Allocator>(alloc: A, tile: Tile) -> Result<Vec<u64, A>, ReadFault>
     requires lawful { IsTile tile }
     requires within { end_of tile ≤ 2 ^ 62 }
@@ -29,7 +29,7 @@ fn numbers_of<A: Allocator>(alloc: A, tile: Tile) -> Result<Vec<u64, A>, ReadFau
     Ok(numbers)
 }
 
-/// The full tile of a level with this index.
+/// Returns the full tile of a level with this index.
 pub(crate) fn full_tile(level: u32, index: u64) -> Tile
     ensures { result ≡ spec.full_tile level index }
 {
@@ -40,7 +40,7 @@ pub(crate) fn full_tile(level: u32, index: u64) -> Tile
     }
 }
 
-// The hashes, one after the other.
+// Returns the bytes of the hashes, one after another.
 pub(crate) fn join<A: Allocator>(alloc: A, hashes: &[Hash]) -> Result<Vec<u8, A>, AllocError>
     ensures { IfOk result (λ bytes. bytes.items ≡ flat_map (λ hash. hash) hashes.now) }
 {
@@ -51,11 +51,10 @@ pub(crate) fn join<A: Allocator>(alloc: A, hashes: &[Hash]) -> Result<Vec<u8, A>
     Ok(bytes)
 }
 
-/// The bytes of a tile over the entries that the reader stands for: its hashes of 32 bytes, one after the other (C2SP
-/// tlog-tiles, "Merkle Tree"). The tile has a level from 0 to 7, an index below 2^56 and a width from 1 to 256, and
-/// lies within 2^62 entries. Each hash is read once, all in one `read` of at most 256 numbers. `OutOfRange` comes
-/// where the reader has not all of these hashes, `OutOfMemory` where memory is refused; `Source` and `BadTile` are
-/// passed on as they are.
+/// Returns the bytes of a tile over the entries that the reader stands for: its hashes of 32 bytes, one after another
+/// (C2SP tlog-tiles, "Merkle Tree"). The tile has a level from 0 to 7, an index below 2^56 and a width from 1 to 256,
+/// and lies within 2^62 entries. All hashes are read in one `read`. It fails with `OutOfRange` if the reader doesn't
+/// have all of them, and with `OutOfMemory` if allocation fails; `Source` and `BadTile` are returned as they are.
 pub fn tile_bytes<R: HashReader, A: Allocator + Copy>(
     alloc: A,
     tile: Tile,

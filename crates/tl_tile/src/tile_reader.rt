@@ -1,9 +1,10 @@
 //! Stored hashes from tiles that are checked against a root.
 //!
-//! `checker` fetches the partial tiles, whose hashes fold to the root (`edge_root`). For each number it then fetches
-//! the full tiles over its subtree, from the top down, and compares what each folds to (`fold_tile`) with its hash in
-//! the tile above. What a full tile's hashes fold to on the way is kept in `trees`, where `subtree` finds the number's
-//! hash; from a partial tile it is folded (`hashes`). What a source answered is kept in `fetched`, the bad tile too.
+//! `checker` fetches the partial tiles, whose hashes must fold to the root (`edge_root`). For each number it then
+//! fetches the full tiles over its subtree, from the top down, and compares the hash that each folds to (`fold_tile`)
+//! with that in the tile above. `trees` keeps all hashes of a full tile's fold, in which `subtree` finds the number's
+//! hash; in a partial tile the hash is folded again (`hashes`). `fetched` keeps what a source returned, also a bad
+//! tile.
 
 ghost use Rattle.std.specs.Prelude.{◌≡◌, ◌≤◌, ◌<◌, List, length, map, All, Any, MatchBool, IfOk, IfErr, OnOk};
 ghost use Rattle.tl_hash.specs.Bytes.{Bytes, Digest};
@@ -49,8 +50,8 @@ impl<T: TreeHash, S: TileSource, A: Allocator> Model for TileHashReader<T, S, A>
 }
 
 impl<T: TreeHash, S: TileSource, A: Allocator> TileHashReader<T, S, A> {
-    /// A reader of the stored hashes of a log of this size and root, over this source. A `read` keeps the tiles that it
-    /// fetches in memory from `alloc` as long as it lasts.
+    /// Returns a reader of the stored hashes of a log of this size and root, over this source. A `read` allocates the
+    /// tiles that it fetches from `alloc`, and frees them at its end.
     pub fn new(alloc: A, h: T, size: u64, root: Hash, source: S) -> TileHashReader<T, S, A>
         ensures { result ≡ record { source = source; size = size; root = root } }
     {
@@ -66,7 +67,7 @@ impl<T: TreeHash, S: TileSource, A: Allocator> TileHashReader<T, S, A> {
     }
 }
 
-// The number of hashes that a reader of this size has.
+// Returns the number of stored hashes that a reader of this size has.
 fn count_of(size: u64) -> u64
     ensures { result ≡ readable_count size }
 {
@@ -77,7 +78,7 @@ fn count_of(size: u64) -> u64
     }
 }
 
-// Whether each number is below the count.
+// Reports whether each number is below the count.
 fn are_below(indexes: &[u64], count: u64) -> bool
     ensures { MatchBool result
         (All (λ index. index < count) indexes.now)
@@ -87,11 +88,11 @@ fn are_below(indexes: &[u64], count: u64) -> bool
 }
 
 impl<T: TreeHash, S: TileSource, A: Allocator + Copy> TileHashReader<T, S, A> {
-    /// The stored hashes with these numbers, in this order; `fetched` then holds the tiles that were fetched for them
-    /// and no others, also after a fault (C2SP tlog-tiles, "Merkle Tree"). Numbers are checked first; for none
-    /// nothing is fetched. The partial tiles come first, from the highest level down, and have to give the root; then
-    /// the full tiles over each number, from the top down, each with the hash that the tile above has. `BadTile` names
-    /// the highest partial tile where these give another root, or the last tile.
+    /// Returns the stored hashes with these numbers, in order. `fetched` then holds the tiles fetched for them and no
+    /// others, also after a fault (C2SP tlog-tiles, "Merkle Tree"). The numbers are checked first, and for none
+    /// nothing is fetched. The partial tiles come first, from the highest level down, and must give the root; then
+    /// the full tiles over each number, from the top down, each with the hash in the tile above. `BadTile` names the
+    /// highest partial tile if these give another root, and otherwise the last tile.
     pub fn read_checked<B: Allocator>(
         &self,
         alloc: B,
@@ -120,9 +121,9 @@ impl<T: TreeHash, S: TileSource, A: Allocator + Copy> TileHashReader<T, S, A> {
         }
     }
 
-    /// As `read_checked`, after tiles that passed all checks against this size and root, or none: those aren't fetched
-    /// again, and not hashed but for the numbers. The tiles that are fetched come behind them, also after a fault. Where
-    /// a number is out of range there are none more.
+    /// Reads as `read_checked` does, after tiles that have passed all checks against this size and root, if any.
+    /// These aren't fetched again, and are hashed only as far as the numbers need. The tiles that are fetched are
+    /// added after them, also after a fault. If a number is out of range, none is added.
     pub fn read_after<B: Allocator>(
         &self,
         alloc: B,
@@ -166,7 +167,7 @@ impl<T: TreeHash, S: TileSource, A: Allocator + Copy> HashReader for TileHashRea
     ghost may_fail = { λ r fault.
         MayGive T.digest_of (S.may_answer r.source) (S.may_lack r.source) r.size r.root fault };
 
-    /// As `read_checked`, without the tiles.
+    /// Reads as `read_checked` does, and drops the tiles.
     fn read<B: Allocator>(&self, alloc: B, indexes: &[u64]) -> Result<Vec<Hash, B>, ReadFault>
         ensures hashes { (H : Digest) (entries : List Bytes) → StandsAgainst T.digest_of
             (S.may_answer self.now.source) self.now.size self.now.root H entries

@@ -15,7 +15,7 @@ pub record AreExtensions (text : Bytes) (lines : List Bytes) : Type 0 where
 abbrev pub AreSome : Bytes → Type 0
 AreSome text = (lines : List Bytes) × AreExtensions text lines
 
--- the text is cut into three lines and the extensions' text
+-- the text is cut into three lines and the text of the extensions
 pub record CutsLines (text : Bytes) (parts : Parts) : Type 0 where
   pub extensions : AreSome parts.extensions.now
   pub lines : IsInLines text (parts.origin.now ∷ parts.size.now ∷ parts.root.now ∷ extensions.0)

@@ -1,9 +1,9 @@
--- The laws by a name, for proofs.
+-- The laws as definitions, for proofs.
 use Rattle.std.specs.Prelude.{◌≡◌, IsUtf8}
 use Rattle.tl_note.specs.Note.{IsNoteText}
 use Rattle.tl_checkpoint.specs.Checkpoint.{Head, IsHead, checkpoint_text}
 
--- two checkpoints with one text are one
+-- two checkpoints with the same text are the same
 abbrev pub CheckpointIsOne : Type 0
 CheckpointIsOne = (c d : Head) → IsHead c → IsHead d → checkpoint_text c ≡ checkpoint_text d → c ≡ d
 

@@ -13,7 +13,7 @@ from_parts a b c half =
     let h : ℕ = add b a in
     record { x = mul e f; y = mul g h; z = mul f g; t = mul e h }
 
--- a point as the second of two that are added
+-- a point prepared to be the second one of a sum
 pub record Cached : Type 0 where
   pub less : ℕ
   pub more : ℕ
@@ -23,7 +23,7 @@ pub record Cached : Type 0 where
 unfoldable pub cached_of : Point → Cached
 cached_of p = record { less = sub p.y p.x; more = add p.y p.x; z = p.z; t = mul p.t (mul 2 curve_d) }
 
--- 2^i * p, by doubling p so many times
+-- 2^i * p, by doubling p i times
 unfoldable pub doubled : ℕ → Point → Point
 doubled zero p = p
 doubled (suc i) p = doubled i (point_add p p)

@@ -1,4 +1,4 @@
-//! The y - x of 2^i * B, for each i below 256, as five limbs of 51 bits, low first.
+//! The y - x of 2^i * B, for each i below 256, as five limbs of 51 bits, lowest first.
 
 #[rattlefmt::skip]
 pub(crate) static LESS: [[u64; 5]; 256] = [

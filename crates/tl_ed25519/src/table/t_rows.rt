@@ -1,4 +1,4 @@
-//! The 2 * d * t of 2^i * B, for each i below 256, as five limbs of 51 bits, low first.
+//! The 2 * d * t of 2^i * B, for each i below 256, as five limbs of 51 bits, lowest first.
 
 #[rattlefmt::skip]
 pub(crate) static T: [[u64; 5]; 256] = [

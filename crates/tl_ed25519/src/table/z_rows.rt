@@ -1,4 +1,4 @@
-//! The z of 2^i * B, for each i below 256, as five limbs of 51 bits, low first.
+//! The z of 2^i * B, for each i below 256, as five limbs of 51 bits, lowest first.
 
 #[rattlefmt::skip]
 pub(crate) static Z: [[u64; 5]; 256] = [

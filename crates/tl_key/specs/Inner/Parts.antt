@@ -16,7 +16,7 @@ pub record IsField (field bytes : Bytes) : Type 0 where
   pub fit : Are33Bytes bytes
   pub spelled : field ≡ base64_text bytes
 
--- what follows a name: eight digits and the field
+-- after a name: eight digits and the field
 pub record IsTail (rest digits bytes : Bytes) : Type 0 where
   pub eight : length digits ≡ 8
   pub fit : Are33Bytes bytes

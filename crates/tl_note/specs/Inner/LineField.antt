@@ -7,7 +7,7 @@ use Rattle.tl_text.specs.Text.{base64_text}
 use Rattle.tl_note.specs.Note.{Signature, IsSignature, signature_field}
 use Rattle.tl_note.specs.Line.{field_signature}
 
--- the field is that of this identifier, and of one byte at least
+-- the field is that of this identifier, and of at least one byte more
 pub record ShowsField (id : ℕ) (field : Bytes) : Type 0 where
   pub range : id < 2 ^ 32
   pub some : 0 < length (field_signature field)

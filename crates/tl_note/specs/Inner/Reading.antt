@@ -22,17 +22,17 @@ IsNoLine text = (s : Signature) → IsSignature s → text ≡ signature_words s
 abbrev pub IsNoFirstLine : Bytes → Type 0
 IsNoFirstLine bytes = (first : Signature) (rest : Bytes) → CutsLine bytes first rest → ⊥
 
--- the bytes are these lines, of 1 to 100
+-- the bytes are these lines, 1 to 100 of them
 pub record AreSignatureLines (bytes : Bytes) (lines : List Signature) : Type 0 where
   pub each : All IsSignature lines
   pub some : 0 < length lines
   pub few : length lines ≤ 100
   pub whole : bytes ≡ flat_map signature_line lines
 
--- the bytes are so many lines
+-- the bytes are this many lines
 abbrev pub HasSignatureLines : Bytes → ℕ → Type 0
 HasSignatureLines bytes count = (lines : List Signature) × AreSignatureLines bytes lines × (length lines ≡ count)
 
--- the bytes are no lines, or too many
+-- the bytes are not 1 to 100 lines
 abbrev pub HasNoSignatureLines : Bytes → Type 0
 HasNoSignatureLines bytes = (lines : List Signature) → AreSignatureLines bytes lines → ⊥

@@ -9,7 +9,7 @@ use Rattle.tl_note.specs.Key.{MayGiveNone, SigningKey}
 use Rattle.tl_note.specs.Note.{Signature, IsSignature, signature_line}
 use Rattle.tl_note.specs.SignNote.{IsSignedBy, AreSigned, MayFail}
 
--- what one signer answers: a signature, or that it may refuse the message or give no bytes
+-- what one signer returns: a signature, or that it may refuse the message or give no bytes
 abbrev pub GivesSignature : {A : Type 0} → Bytes → SigningKey → ℕ → Result (Vec ℕ A) NoteFault → Type 0
 GivesSignature message key place (Ok signature) = (0 < length signature.items) × IsTrue (key.may_give message signature.items)
 GivesSignature message key place (Err (Sign at)) = (at ≡ place) × MayGiveNone key message

@@ -1,4 +1,4 @@
--- The laws by a name, for proofs.
+-- The laws as definitions, for proofs.
 use Rattle.std.specs.Prelude.{◌≡◌, ℕ, ◌<◌, ◌≤◌, ◌⊎◌, List, [], length, take, All, slice_index_or}
 use Rattle.tl_hash.specs.Bytes.{Bytes, Digest}
 use Rattle.tl_hash.specs.Tree.{leaf_input, tree_hash, inputs}
@@ -22,9 +22,9 @@ ConsistencyIsAccepted =
     → AcceptsConsistency H (consistency_proof H old entries) (length entries) (tree_hash H entries)
     old (tree_hash H (take old entries))
 
--- an inclusion proof that is accepted for an entry under the root of a list is of the list's own entry at this
--- index, or one of the byte strings hashed for its check and one of those hashed for the list are different and
--- have one digest
+-- if an inclusion proof is accepted for an entry under the root of a list, the entry is the list's own at this index,
+-- or one of the byte strings hashed for its check and one of those hashed for the list are different and have one
+-- digest
 abbrev pub InclusionShowsEntry : Type 0
 InclusionShowsEntry =
     (H : Digest) → ((message : Bytes) → HasHashLength (H message))
@@ -33,9 +33,9 @@ InclusionShowsEntry =
     → (entry ≡ slice_index_or entries index [])
     ⊎ ((x : Bytes) × (y : Bytes) × Collides H x y (path_inputs H index (length entries) proof entry) (inputs H entries))
 
--- where accepted proofs lead, step by step, from the root of one list to the root of another, the first is
--- a prefix of the second, or two of the byte strings hashed for the audit have one digest. The roots
--- between need not be roots of any list
+-- if accepted proofs lead, step by step, from the root of one list to the root of another, the first is a prefix of
+-- the second, or two of the byte strings hashed for the audit have one digest. The roots in between need not be roots
+-- of any list
 abbrev pub LinksExtendOrCollide : Type 0
 LinksExtendOrCollide =
     (H : Digest) → ((message : Bytes) → HasHashLength (H message))

@@ -1,4 +1,4 @@
--- The parts of the entries whose tree hashes make up several inclusion proofs: words of the provers' own clauses.
+-- The parts of the entries whose tree hashes make up several inclusion proofs, for the contracts of the provers.
 use Rattle.std.specs.Prelude.{◌≡◌, ℕ, ◌≤◌, List, [], ◌∷◌, length, take, drop, map, sum, All}
 use Rattle.tl_hash.specs.Bytes.{Bytes, Digest}
 use Rattle.tl_proof.specs.Proofs.{inclusion_proof}
@@ -11,8 +11,8 @@ abbrev pub cut_into : {X : Type 0} → List ℕ → List X → List (List X)
 cut_into [] xs = []
 cut_into (count ∷ counts) xs = take count xs ∷ cut_into counts (drop count xs)
 
--- the segments of the inclusion proofs of the entries at these indexes among the first `size`, one proof
--- after another, and how many there are of each
+-- the segments of the inclusion proofs of the entries at these indexes among the first `size`, one proof after
+-- another, and the number of segments of each
 pub record IsPathsPlan (size : ℕ) (indexes : List ℕ) (segments : List Segment) (counts : List ℕ) : Type 0 where
   pub hashes : (H : Digest) (entries : List Bytes) → size ≤ length entries
       → map (map (segment_root H entries)) (cut_into counts segments) ≡ map (λ index. inclusion_proof H index (take size entries)) indexes

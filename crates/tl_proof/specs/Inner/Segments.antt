@@ -1,4 +1,4 @@
--- The parts of the entries whose tree hashes make up a proof: words of the provers' own clauses.
+-- The parts of the entries whose tree hashes make up a proof, for the contracts of the provers.
 use Rattle.std.specs.Prelude.{◌≡◌, ℕ, ◌-◌, ◌<◌, ◌≤◌, Bool, false, List, [], ◌∷◌, ◌++◌, length, take, drop, map, All, sum_by}
 use Rattle.std.specs.Int.RustNames.{count_ones}
 use Rattle.tl_hash.specs.Bytes.{Bytes, Digest}
@@ -8,7 +8,7 @@ use Rattle.tl_proof.specs.Proofs.{inclusion_proof, subproof}
 use Rattle.tl_proof.specs.Needs.{inclusion_needs}
 use Rattle.tl_proof.specs.declared.plan.Segment.{Segment}
 
--- the new list is the old one, followed by some that are so
+-- the new list is the old one, and then some elements with this property
 pub record GrowsBy {X : Type 0} (P : List X → Type 0) (old new : List X) : Type 0 where
   pub added : List X
   pub whole : new ≡ old ++ added
@@ -22,12 +22,12 @@ entries_in start end entries = take (end - start) (drop start entries)
 abbrev pub segment_root : Digest → List Bytes → Segment → Bytes
 segment_root H entries s = tree_hash H (entries_in s.start s.end entries)
 
--- it is not empty, and begins where a complete subtree does that has it all
+-- the segment isn't empty, and begins with the first entry of a complete subtree that has all of it
 pub record IsSegment (s : Segment) : Type 0 where
   pub some : s.start < s.end
   pub aligned : IsAligned s.start s.end
 
--- the least number of entries that have all the segments, where it is above `low`
+-- the least number of entries that include all the segments, if it is above `low`
 pub record IsNeeded (low needed : ℕ) (segments : List Segment) : Type 0 where
   pub most : All (λ s. s.end ≤ needed) segments
   pub least : low < needed → (n : ℕ) → All (λ s. s.end ≤ n) segments → needed ≤ n
@@ -55,6 +55,6 @@ pub data AreGroups : List Segment → List ℕ → Type 0 where
       → AreCovering s.start s.end group → AreGroups segments others
       → AreGroups (s ∷ segments) (group ++ others)
 
--- how many they are: one for each binary digit 1 of the number of entries in a segment
+-- the number of complete subtrees: one for each binary digit 1 of the number of entries of a segment
 abbrev pub subtree_count : List Segment → ℕ
 subtree_count segments = sum_by (λ s. count_ones (s.end - s.start)) segments

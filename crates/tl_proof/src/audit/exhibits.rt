@@ -1,4 +1,4 @@
-//! Two nodes side by side: whether they are a fork, and the byte strings that an audit exhibits.
+//! Two nodes side by side: whether they are a fork, and the byte strings that an audit shows.
 
 ghost use Rattle.std.specs.Prelude.{◌≡◌, ◌↔◌, IsTrue, IfOk};
 ghost use Rattle.tl_hash.specs.Tree.{leaf_input, node_input};
@@ -9,8 +9,8 @@ use crate::check::same;
 use std::alloc::{AllocError, Allocator};
 use tl_hash::{Hash, TreeHash, node_hash};
 
-// Whether two nodes are over the same hashes. Their byte strings are then the same too, and else are not, since each
-// left hash has 32 bytes: a proof sees that of a hash only where its bytes are read.
+// Reports whether two nodes are over the same hashes. That is so exactly if their byte strings are the same, since
+// each left hash has 32 bytes. The prover knows that length only once the bytes are read, so they are.
 fn same_children(a: Children, b: Children) -> bool
     ensures hashes { IsTrue result ↔ ((a.left ≡ b.left) × (a.right ≡ b.right)) }
     ensures strings { (input_of a ≡ input_of b) → ((a.left ≡ b.left) × (a.right ≡ b.right)) }
@@ -20,7 +20,7 @@ fn same_children(a: Children, b: Children) -> bool
     same(a.left, b.left) && same(a.right, b.right)
 }
 
-// The two nodes of a fork where they are over other hashes, and what was found below them where not.
+// Returns the two nodes as a fork if they are over different hashes, and otherwise what was found below them.
 fn fork_over(fork: Fork, below: Option<Fork>) -> Option<Fork>
     ensures { IsForkOver fork below result }
 {
@@ -31,7 +31,7 @@ fn fork_over(fork: Fork, below: Option<Fork>) -> Option<Fork>
     }
 }
 
-/// The walk that goes on to two nodes, each over a left and a right hash, from what was found below them.
+/// Returns the walk that goes on from `below` to two nodes, each over a left and a right hash.
 pub(crate) fn walk_to<T: TreeHash>(
     h: T,
     first: (Hash, Hash),
@@ -56,7 +56,7 @@ pub(crate) fn walk_to<T: TreeHash>(
     }
 }
 
-// The byte string hashed for a leaf (RFC 6962, section 2.1).
+// Returns the byte string that is hashed for a leaf (RFC 6962, section 2.1).
 fn leaf_string<A: Allocator + Copy>(alloc: A, entry: &[u8]) -> Result<Vec<u8, A>, AllocError>
     ensures { IfOk result (λ string. string.items ≡ leaf_input entry.now) }
 {
@@ -66,7 +66,7 @@ fn leaf_string<A: Allocator + Copy>(alloc: A, entry: &[u8]) -> Result<Vec<u8, A>
     Ok(string)
 }
 
-// The byte string hashed for a node (RFC 6962, section 2.1).
+// Returns the byte string that is hashed for a node (RFC 6962, section 2.1).
 fn node_string<A: Allocator + Copy>(alloc: A, children: Children) -> Result<Vec<u8, A>, AllocError>
     ensures { IfOk result (λ string. string.items ≡ input_of children) }
 {
@@ -77,7 +77,8 @@ fn node_string<A: Allocator + Copy>(alloc: A, children: Children) -> Result<Vec<
     Ok(string)
 }
 
-/// The byte strings hashed for the two nodes of a fork, or where there is none for the leaves of two entries.
+/// Returns the byte strings that are hashed for the two nodes of a fork, or for the leaves of two entries if there is
+/// no fork.
 pub(crate) fn strings_of<A: Allocator + Copy>(
     alloc: A,
     fork: Option<Fork>,

@@ -1,4 +1,4 @@
-//! What the walks of an audit find: two nodes with one digest over other hashes, or the entries at one place.
+//! What an audit finds: two nodes with one digest over different hashes, or the entries at one place.
 
 use tl_hash::Hash;
 
@@ -17,7 +17,7 @@ pub(crate) struct Fork {
 }
 
 /// The old and the new root that the check of a proof leads to, the root of the list beside it, and the uppermost two
-/// nodes on the way down to the old root that are over other hashes.
+/// nodes over different hashes on the way to the old root.
 #[derive(Clone, Copy)]
 pub(crate) struct CheckWalk {
     pub(crate) old: Hash,
@@ -26,8 +26,8 @@ pub(crate) struct CheckWalk {
     pub(crate) fork: Option<Fork>,
 }
 
-/// The hashes of two nodes, and the uppermost two nodes on one way down from them that are over other hashes, these two
-/// among them.
+/// The hashes of two nodes, and the uppermost two nodes over different hashes on one way down from them, which may be
+/// these two themselves.
 #[derive(Clone, Copy)]
 pub(crate) struct Walk {
     pub(crate) first: Hash,

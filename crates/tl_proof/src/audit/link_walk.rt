@@ -1,4 +1,4 @@
-//! The walk down the check of a consistency proof beside the tree of a list.
+//! The check of a consistency proof, followed beside the tree of a list.
 
 ghost use Rattle.std.specs.Prelude.{◌≡◌, ◌<◌, ◌≤◌, reverse, length, take, map, vec_items, option_map, MatchOption};
 ghost use Rattle.tl_hash.specs.Tree.{node_input, tree_hash, inputs};
@@ -12,7 +12,7 @@ use crate::check::lead_roots;
 use std::alloc::Allocator;
 use tl_hash::{Hash, TreeHash, entry_root, node_hash, split_point};
 
-// The walk that ends with these roots of a check, beside the root of a list.
+// Returns the walk that ends with these two roots of a check, beside the root of a list.
 fn walk_of(roots: Option<(Hash, Hash)>, list: Hash) -> Option<CheckWalk>
     ensures { result ≡ option_map
         (λ r. record { old = r.0; new = r.1; list = list; fork = None }) roots }
@@ -28,7 +28,8 @@ fn walk_of(roots: Option<(Hash, Hash)>, list: Hash) -> Option<CheckWalk>
     }
 }
 
-// The walk that goes on from the left part of a list: to the right stand a hash of the proof and the rest of the list.
+// Returns the walk one level above the left part of a list. To its right are `last`, a hash of the proof, and
+// `beside`, the hash of the list's other part.
 fn over_left<T: TreeHash>(h: T, below: CheckWalk, last: Hash, beside: Hash) -> CheckWalk
     ensures old { result.old ≡ below.old }
     ensures new { result.new ≡ T.digest_of (node_input below.new last) }
@@ -44,8 +45,8 @@ fn over_left<T: TreeHash>(h: T, below: CheckWalk, last: Hash, beside: Hash) -> C
     }
 }
 
-// The walk that goes on from the right part of a list: to the left stand a hash of the proof and the first part of the
-// list.
+// Returns the walk one level above the right part of a list. To its left are `last`, a hash of the proof, and
+// `beside`, the hash of the list's other part.
 fn over_right<T: TreeHash>(h: T, last: Hash, beside: Hash, below: CheckWalk) -> CheckWalk
     ensures old { result.old ≡ T.digest_of (node_input last below.old) }
     ensures new { result.new ≡ T.digest_of (node_input last below.new) }
@@ -61,8 +62,8 @@ fn over_right<T: TreeHash>(h: T, last: Hash, beside: Hash, below: CheckWalk) -> 
     }
 }
 
-// The walk down the check of a proof beside the tree of a list. Each entry is hashed once, each part beside the way by
-// itself. No more than 64 calls stand at once, as in the check.
+// Returns the walk down the check of a proof beside the tree of a list. Each entry is hashed once, each part beside
+// the path on its own. The recursion is at most 64 calls deep, as in the check.
 fn walk_check<T: TreeHash, B: Allocator>(
     h: T,
     old: usize,
@@ -99,8 +100,8 @@ fn walk_check<T: TreeHash, B: Allocator>(
     }
 }
 
-/// Two nodes that collide, one of the check of an accepted proof and one of the tree of a list whose root it leads to,
-/// where the old root isn't that of the list's first `old` entries; none where it is.
+/// Returns two nodes that collide if the old root isn't that of the list's first `old` entries: one of the check of
+/// an accepted proof, and one of the tree of the list, whose root the proof leads to. Returns `None` if it is.
 pub(crate) fn fork_in_link<T: TreeHash, B: Allocator>(
     h: T,
     proof: &[Hash],

@@ -1,4 +1,4 @@
-//! A chain of links: whether it leads from one size and root to another, and the walk back over it.
+//! A chain of links: whether it leads from one size and root to another, and the search for a fork in it.
 
 ghost use Rattle.std.specs.Prelude.{◌≡◌, ◌+◌, ◌<◌, ◌≤◌, ◌↔◌, length, map, take, vec_items, IsTrue};
 ghost use Rattle.tl_hash.specs.Tree.{tree_hash};
@@ -13,9 +13,9 @@ use crate::link::Link;
 use std::alloc::Allocator;
 use tl_hash::{Hash, TreeHash};
 
-/// Whether each link is accepted from the one before, the first from the old size and root, and the last one has
-/// the new size and root. With no links the sizes and the roots must be the same. A digest or two for each hash of
-/// the proofs.
+/// Reports whether each link is accepted from the one before it, the first from the old size and root, and the last
+/// link has the new size and root. Without links, the sizes and the roots must be the same. It takes one or two
+/// digests for each hash of the proofs.
 pub(crate) fn links_lead<T: TreeHash, C: Allocator>(
     h: T,
     links: &[Link<C>],
@@ -39,7 +39,7 @@ pub(crate) fn links_lead<T: TreeHash, C: Allocator>(
     at == size && same(at_root, root)
 }
 
-// The size and the root with which the first links end.
+// Returns the size and the root of the last of the first `count` links, or the old ones for none.
 fn end_after<C: Allocator>(links: &[Link<C>], count: usize, old: u64, old_root: Hash) -> (u64, Hash)
     requires { count ≤ length links.now }
     ensures size { result.0 ≡ end_size old (take count (map step_of links.now)) }
@@ -52,8 +52,8 @@ fn end_after<C: Allocator>(links: &[Link<C>], count: usize, old: u64, old_root: 
     }
 }
 
-// Two nodes that collide at one link whose root is that of the list's prefix, where the root before it isn't; none
-// where it is.
+// Returns two nodes that collide at a link whose root is that of the list's prefix, if the root before it isn't.
+// Returns `None` if it is.
 fn fork_at<T: TreeHash, B: Allocator, C: Allocator>(
     h: T,
     links: &[Link<C>],
@@ -86,9 +86,9 @@ fn fork_at<T: TreeHash, B: Allocator, C: Allocator>(
     )
 }
 
-/// Two nodes that collide at the last link before which the root isn't that of the list's prefix; none where the
-/// old root is that of the list's first `old` entries. Each link walked over takes one pass over the prefix of its
-/// size.
+/// Returns two nodes that collide at the last link before which the root isn't that of the list's prefix. Returns
+/// `None` if the old root is that of the list's first `old` entries. Each link on the way takes one pass over the
+/// prefix of its size.
 pub(crate) fn fork_in_links<T: TreeHash, B: Allocator, C: Allocator>(
     h: T,
     links: &[Link<C>],

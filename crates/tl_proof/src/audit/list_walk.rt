@@ -1,4 +1,4 @@
-//! Two lists: the first place at which they differ, and the walk down their trees to one place.
+//! Two lists: the first place at which they differ, and the walk down their trees to that place.
 
 ghost use Rattle.std.specs.Prelude.{◌≡◌, ◌<◌, ◌≤◌, ◌↔◌, length, map, vec_items, IsTrue, MatchOption};
 ghost use Rattle.tl_proof.specs.Collisions.{IsPrefix};
@@ -9,15 +9,15 @@ use crate::audit::fork::Walk;
 use std::alloc::Allocator;
 use tl_hash::{Hash, TreeHash, entry_root, leaf_hash, split_point};
 
-// Whether two byte strings are the same.
+// Reports whether two byte strings are the same.
 fn same_bytes(a: &[u8], b: &[u8]) -> bool
     ensures { IsTrue result ↔ (a.now ≡ b.now) }
 {
     a == b
 }
 
-/// The first place at which the old list differs from the new one, which is no shorter; none where the old list is a
-/// prefix.
+/// Returns the first place at which the old list differs from the new one, which is at least as long, or `None` if
+/// the old list is a prefix.
 pub(crate) fn first_difference<B: Allocator>(
     old: &[Vec<u8, B>],
     new: &[Vec<u8, B>],
@@ -35,8 +35,8 @@ pub(crate) fn first_difference<B: Allocator>(
     None
 }
 
-/// The walk down the trees of two lists of one length to one place. Each entry is hashed once, each part beside the way
-/// by itself. No more than 64 calls stand at once.
+/// Returns the walk down the trees of two lists of one length to one place. Each entry is hashed once, each part
+/// beside the path on its own. The recursion is at most 64 calls deep.
 pub(crate) fn walk_lists<T: TreeHash, B: Allocator>(
     h: T,
     place: usize,

@@ -7,7 +7,7 @@ use Rattle.tl_sequencer.specs.Log.{Lane, Sender, IsShort, End as Ended}
 use Rattle.std.specs.declared.vec.Vec.{Vec}
 
 module _ {E A : Type 0} where
-  -- a lane gives `count` entries, which go behind the entries
+  -- a lane gives `count` entries, which are appended
   pub record Gives (count lane : ℕ) (l l' : Lane A) (entries entries' : List (Vec ℕ E)) (who who' : List ℕ) : Type 0 where
     pub popped : List (Vec ℕ E)
     pub counted : length popped ≡ count
@@ -27,13 +27,13 @@ module _ {E A : Type 0} where
     pub by : who' ≡ who ++ replicate count lane
     pub short : All (λ v. IsShort v.items) popped
 
--- what is left of the lane does not fit into the room, or it fits, there is some, and memory was refused
+-- what is left of the lane doesn't fit into the room; or it fits, isn't empty, and memory ran out
 abbrev pub LaneRefuses : ℕ → List (List ℕ) → List (List ℕ) → TakeFault → Type 0
 LaneRefuses room given sent NoLane = ⊥
 LaneRefuses room given sent LogFull = length given + room < length sent
 LaneRefuses room given sent OutOfMemory = (length sent ≤ length given + room) × (length given < length sent)
 
--- the smallest of these lanes whose end was not taken in
+-- the lowest of these lanes whose end wasn't taken in
 abbrev pub IsFirstOpenOf : {A : Type 0} → List (Lane A) → ℕ → Type 0
 IsFirstOpenOf lanes lane =
     let ends = map (λ l. l.sent) lanes in

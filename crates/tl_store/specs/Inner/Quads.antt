@@ -4,7 +4,7 @@ use Rattle.tl_hash.specs.Bytes.{Bytes, Digest}
 use Rattle.tl_hash.specs.Tree.{leaf_input}
 use Rattle.tl_store.specs.declared.quads.FourQuads.{FourQuads}
 
--- the hashes of one quad, as they are stored
+-- the hashes of one quad, in the order in which they are stored
 abbrev pub quad_of : FourQuads → ℕ → List Bytes
 quad_of quads lane =
     slice_index_or quads.first lane []
@@ -16,6 +16,6 @@ quad_of quads lane =
     ∷ slice_index_or quads.top lane []
     ∷ []
 
--- the hash is that of the leaf which is the entry at this place
+-- the hash is the leaf hash of the entry at this place
 abbrev pub IsLeafAt : {X : Type 0} → (X → Bytes) → Digest → List X → ℕ → Bytes → Type 0
 IsLeafAt {X} bytes_of H entries place hash = (entry : X) × (entry ≡ slice_index_or entries place entry) × (hash ≡ H (leaf_input (bytes_of entry)))

@@ -8,7 +8,7 @@ use Rattle.tl_hash.specs.Tree.{tree_hash}
 abbrev pub levels : ℕ → List ℕ
 levels n = range_with_len 0 n
 
--- how many complete subtrees a level has over n entries
+-- the number of complete subtrees of a level over n entries
 abbrev pub count_at : ℕ → ℕ → ℕ
 count_at n level = count_by (λ place. nat_le ((place + 1) * 2 ^ level) n) (range_with_len 0 n)
 

@@ -1,4 +1,4 @@
--- The laws by a name, for proofs.
+-- The laws as definitions, for proofs.
 use Rattle.std.specs.Prelude.{◌≡◌, ℕ, ◌+◌, ◌≤◌, List, Contains, ◌↔◌}
 use Rattle.tl_hash.specs.Bytes.{Bytes}
 use Rattle.tl_tile.specs.declared.resource.Tile.{Tile}
@@ -12,11 +12,11 @@ use Rattle.tl_tile.specs.Law.{BundleIsOne, IsNewSince}
 abbrev pub BundlesAreOne : Type 0
 BundlesAreOne = (bytes : Bytes) (width : ℕ) (entries : List Bytes) → AreEntries width entries → bytes ≡ bundle_text entries → BundleIsOne bytes width entries
 
--- no bytes both end within a bundle and go on past one
+-- no bytes both end within a bundle and go on after one
 abbrev pub BundleFaultsApart : Type 0
 BundleFaultsApart = (bytes : Bytes) (width : ℕ) → IsTruncated bytes width → HasTrailing bytes width → ⊥
 
--- the tiles that an entry fills are the full ones that are needed with it and were not before it
+-- the full tiles that an entry completes are those that are needed with it and weren't needed before it
 abbrev pub FilledTilesAreNew : Type 0
 FilledTilesAreNew =
     (n : ℕ) (t : Tile)

@@ -1,4 +1,4 @@
--- Words of the functions that read and write paths.
+-- Definitions for the functions that read and write paths.
 use Rattle.std.specs.Prelude.{◌≡◌, ◌≢◌, ℕ, ◌+◌, ◌-◌, ◌*◌, ◌^◌, ◌<◌, ◌≤◌, [], ◌∷◌, ◌++◌, ◌==◌, nat_lt, ◌&&◌, if◌then◌else◌, Option, MatchOption}
 use Rattle.std.specs.List.{flat_map}
 use Rattle.std.specs.Int.Digits.{digits_of}
@@ -9,11 +9,11 @@ use Rattle.tl_tile.specs.declared.resource.Resource.{Resource}
 use Rattle.tl_tile.specs.declared.resource.Resource.TheVariants as resource
 use Rattle.tl_tile.specs.Path.{IsTile, marked_group, width_text, piece_text}
 
--- bytes without this beginning, or that they don't begin so
+-- the bytes after `front`, or none if they don't begin with it
 abbrev pub Strips : {X : Type 0} → (X → Bytes) → Bytes → Bytes → Option X → Type 0
 Strips now bytes front result = MatchOption result ((rest : Bytes) → bytes ≢ front ++ rest) (λ rest. bytes ≡ front ++ now rest)
 
--- the number so far, and one more digit; other bytes, and digits past the greatest index, are passed over
+-- the number so far, and one more digit; other bytes, and digits past the greatest index, are skipped
 abbrev pub with_digit : ℕ → ℕ → ℕ
 with_digit n b = if is_ascii_digit b && nat_lt n (2 ^ 56) then n * 10 + (b - 48) else n
 
@@ -22,7 +22,7 @@ abbrev pub leading_number : ℕ → Bytes → ℕ
 leading_number n [] = n
 leading_number n (b ∷ bytes) = if b == 46 then n else leading_number (with_digit n b) bytes
 
--- the groups of an index that stand before the last
+-- the groups of an index before the last one
 abbrev pub leading_groups : ℕ → Bytes
 leading_groups n = flat_map marked_group (digits_of 1000 n)
 

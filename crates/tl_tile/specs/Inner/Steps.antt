@@ -1,4 +1,4 @@
--- What each step of a read makes of the tiles that were fetched.
+-- What each step of a read does to the fetched tiles.
 use Rattle.std.specs.Prelude.{◌≡◌, ℕ, ◌+◌, ◌*◌, ◌/◌, ◌%◌, ◌^◌, ◌<◌, ◌≤◌, Bool, true, false, List, [], ◌∷◌, ◌++◌, Some, None, ◌⊎◌}
 use Rattle.std.specs.List.{AllZip}
 use Rattle.tl_hash.specs.Bytes.{Bytes, Digest}
@@ -13,7 +13,7 @@ use Rattle.tl_tile.specs.Source.{Answers, AreAnswers, AreLong, HasTileWith}
 use Rattle.tl_tile.specs.Fetching.{edge_from}
 use Rattle.tl_tile.specs.Verified.{AreInOrder, ComesNext}
 
--- the tiles of a read so far, good or bad: answers of the source, in order
+-- the tiles of a read so far, good or bad: returned by the source, in order
 pub record AreFetched (may_answer : Tile → Bytes → Type 0) (H : Digest) (size : ℕ) (root : Bytes) (fetched : List (Tile × Bytes)) : Type 0 where
   pub answers : AreAnswers may_answer size fetched
   pub order : AreInOrder H size root fetched
@@ -25,7 +25,7 @@ pub record AreEdgeFrom (size level : ℕ) (fetched : List (Tile × Bytes)) : Typ
   pub partial : (t : Tile) (text : Bytes) → tiles_of fetched t ≡ Some text → (t.width < 256) × (level ≤ t.level)
   pub edge : (l : ℕ) → level ≤ l → l < 8 → 0 < level_count size l % 256 → (text : Bytes) × IsEdgeLevel (tiles_of fetched) size l text
 
--- this tile was added, which comes next, with a text that the source may answer, or nothing
+-- this tile was added, which comes next, with a text that the source may return; or nothing was added
 abbrev pub AddsOnly : (Tile → Bytes → Type 0) → Digest → ℕ → Bytes → Tile → List (Tile × Bytes) → List (Tile × Bytes) → Type 0
 AddsOnly may_answer H size root t before after =
     (after ≡ before)

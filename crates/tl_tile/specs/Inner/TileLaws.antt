@@ -1,4 +1,4 @@
--- The laws by a name, for proofs.
+-- The laws as definitions, for proofs.
 use Rattle.std.specs.Prelude.{◌≡◌, ℕ, ◌+◌, ◌*◌, ◌%◌, ◌^◌, ◌<◌, ◌≤◌, List, length, Some, ◌⊎◌}
 use Rattle.tl_hash.specs.Bytes.{Bytes, Digest}
 use Rattle.tl_hash.specs.Tree.{tree_hash}
@@ -7,8 +7,8 @@ use Rattle.tl_tile.specs.TileText.{level_count, full_tile, tile_with}
 use Rattle.tl_tile.specs.Folds.{Tiles, IsHashAt, IsEdgeRoot, IsTileHash, AreChecked, IsSubtreeHash, TilesCollide}
 use Rattle.tl_tile.specs.TileLaws.{AreHonest}
 
--- what the hashes of a subtree fold to in checked tiles is its stored hash, for each list of this size and root, or an
--- input of that list and a string hashed for the tiles collide
+-- in checked tiles, the hash that those of a subtree fold to is its stored hash, for each list of this size and root;
+-- or an input of that list and a string hashed for the tiles collide
 abbrev pub CheckedTilesHaveStoredHashes : Type 0
 CheckedTilesHaveStoredHashes =
     (H : Digest) → ((message : Bytes) → length (H message) ≡ 32)
@@ -42,7 +42,7 @@ FoldedHashesAreOne =
     → (IsEdgeRoot H tiles size hash strings → IsEdgeRoot H tiles size other others → hash ≡ other)
     × (IsTileHash H text hash strings → IsTileHash H text other others → hash ≡ other)
 
--- what the hashes of a subtree fold to in honest tiles is its stored hash
+-- in honest tiles, the hash that those of a subtree fold to is its stored hash
 abbrev pub HonestTilesHaveStoredHashes : Type 0
 HonestTilesHaveStoredHashes =
     (H : Digest) → ((message : Bytes) → length (H message) ≡ 32)

@@ -1,4 +1,4 @@
--- Trees of tiles in a map.
+-- The trees of tiles in a map.
 use Rattle.std.specs.Prelude.{ℕ, option_map, vec_items}
 use Rattle.std.specs.declared.cmp.Ordering.{Ordering}
 use Rattle.std.specs.declared.vec.Vec.{Vec}

@@ -1,4 +1,4 @@
-//! The right edge of a log put after another's.
+//! Appending the right edge of another log.
 
 ghost use Rattle.std.specs.Prelude.{◌≡◌, ◌≤◌, ◌<◌, ◌+◌, ◌%◌, ◌^◌, ◌++◌, List, length, OnOk, OnErr};
 ghost use Rattle.tl_hash.specs.Bytes.{Bytes};
@@ -11,10 +11,10 @@ use std::alloc::{AllocError, Allocator};
 use tl_hash::{Hash, TreeHash};
 
 impl<T: TreeHash, A: Allocator + Copy> Edge<T, A> {
-    /// Adds the entries of another log, whose right edge `next` is, after this log's own, as so many calls of `push`
-    /// do, and makes no tiles. It hashes none of them again: it costs 255 node hashes for each tile that it completes
-    /// above level 0. Both sizes are multiples of 256, the other's below 65,536, and their sum is below 2^32. It fails
-    /// only where the edge has no room for all hashes that `next` keeps; the edge then stays as it was.
+    /// Appends the entries of another log, whose right edge is `next`, as calls of `push` do one by one, and makes no
+    /// tiles. It hashes no entry again: it costs 255 node hashes for each tile above level 0 that it completes. Both
+    /// sizes are multiples of 256, that of `next` is below 65,536, and their sum is below 2^32. If allocation fails,
+    /// the edge doesn't change; it allocates only if there is no room for all hashes of `next`.
     pub fn append_edge<B: Allocator>(&mut self, next: &Edge<T, B>) -> Result<(), AllocError>
         requires whole { self.old.size % 256 ≡ 0 }
         requires next_whole { next.now.size % 256 ≡ 0 }
@@ -35,7 +35,7 @@ impl<T: TreeHash, A: Allocator + Copy> Edge<T, A> {
         Ok(())
     }
 
-    // Adds a full tile of 256 entries by its root, where the edge has room for one hash more.
+    // Appends 256 entries by the root of their tile. The edge must have room for one more hash.
     pub(super) fn push_root(&mut self, root: Hash)
         requires whole { self.old.size % 256 ≡ 0 }
         requires small { self.old.size + 256 < 2 ^ 32 }

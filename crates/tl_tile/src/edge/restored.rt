@@ -1,4 +1,4 @@
-//! The right edge of a log that is kept elsewhere, from its partial tiles.
+//! The right edge of a log that is stored elsewhere, from its partial tiles.
 
 ghost use Rattle.std.specs.Prelude.{◌≡◌, ◌<◌, ◌≤◌, ◌^◌, ◌⊎◌, ◌++◌, List, length, All, IfOk, IfErr, OnOk};
 ghost use Rattle.tl_hash.specs.Bytes.{Bytes};
@@ -20,7 +20,7 @@ use std::alloc::{AllocError, Allocator};
 use tl_hash::{Hash, TreeHash};
 use tl_store::{ReadFault, stored_index};
 
-// Adds the number of each hash of a level's partial tile among the stored hashes.
+// Adds the numbers, among the stored hashes, of the hashes of a level's partial tile.
 fn push_numbers<A: Allocator>(
     numbers: &mut Vec<u64, A>,
     size: u64,
@@ -38,7 +38,7 @@ fn push_numbers<A: Allocator>(
     Ok(())
 }
 
-// The numbers of the hashes of all partial tiles, those of the highest level first.
+// Returns the numbers of the hashes of all partial tiles, those of the highest level first.
 fn edge_numbers<A: Allocator>(alloc: A, size: u64) -> Result<Vec<u64, A>, AllocError>
     requires { size < 2 ^ 32 }
     ensures { IfOk result (λ numbers. numbers.items ≡ numbers_below size 8) }
@@ -51,9 +51,10 @@ fn edge_numbers<A: Allocator>(alloc: A, size: u64) -> Result<Vec<u64, A>, AllocE
 }
 
 impl<T: TreeHash, A: Allocator + Copy> Edge<T, A> {
-    /// The edge of a log of this size and root, from its partial tiles (C2SP tlog-tiles, "Partial Tiles"), which are
-    /// fetched from a source that may lie, from the highest level down, and have to give the root; `fetched` then holds
-    /// them and no others, also after a fault. Of no entries nothing is fetched, and the root isn't looked at.
+    /// Returns the edge of a log of this size and root, from its partial tiles (C2SP tlog-tiles, "Partial Tiles").
+    /// They are fetched from a source that may lie, from the highest level down, and must give the root. `fetched`
+    /// then holds these tiles and no others, also after a fault. For size 0 nothing is fetched, and the root isn't
+    /// used.
     pub fn restore<S: TileSource + Drop>(
         alloc: A,
         h: T,

@@ -1,4 +1,4 @@
-//! Fetching tiles and checking each against a root.
+//! Fetching tiles and checking each of them against a root.
 
 ghost use Rattle.std.specs.Prelude.{◌≡◌, ◌↔◌, ◌≤◌, ◌<◌, ◌+◌, ◌*◌, ◌/◌, ◌%◌, ◌^◌, ◌∷◌, ◌++◌, ℕ, List, [], length, IfErr, OnOk, IsTrue, MatchBool, MatchOption, Some, None, ◌⊎◌};
 ghost use Rattle.tl_hash.specs.Bytes.{Bytes};
@@ -24,7 +24,7 @@ use std::alloc::Allocator;
 use tl_hash::{Hash, TreeHash};
 use tl_store::ReadFault;
 
-// The partial tile of the highest level that has one.
+// Returns the partial tile of the highest level that has one.
 fn highest_tile(size: u64) -> Tile
     requires { 0 < size }
     ensures partial { result ≡ spec.partial_tile size result.level }
@@ -35,7 +35,7 @@ fn highest_tile(size: u64) -> Tile
     partial_tile(size, size.ilog2() / 8)
 }
 
-// Whether two hashes are the same.
+// Reports whether two hashes are the same.
 fn same(a: Hash, b: Hash) -> bool
     ensures { IsTrue result ↔ (a ≡ b) }
 {
@@ -52,7 +52,7 @@ pub(crate) struct Checker<T: TreeHash, S: TileSource> {
 }
 
 impl<T: TreeHash, S: TileSource> Checker<T, S> {
-    // Fetches a tile of the log that wasn't fetched yet, and checks the length of its text.
+    // Fetches a tile of the log that isn't fetched yet, and checks the length of its text.
     fn fetch_tile<A: Allocator + Copy>(
         &self,
         tile: Tile,
@@ -79,7 +79,7 @@ impl<T: TreeHash, S: TileSource> Checker<T, S> {
         Ok(())
     }
 
-    // Fetches the partial tile of a level, where there is one.
+    // Fetches the partial tile of a level, if there is one.
     fn fetch_level<A: Allocator + Copy>(
         &self,
         level: u32,
@@ -104,7 +104,7 @@ impl<T: TreeHash, S: TileSource> Checker<T, S> {
         self.fetch_tile(tile, fetched)
     }
 
-    // Fetches the partial tiles, from the highest down.
+    // Fetches the partial tiles, the highest first.
     fn fetch_levels<A: Allocator + Copy>(
         &self,
         fetched: &mut FetchedTiles<A>,
@@ -150,7 +150,7 @@ impl<T: TreeHash, S: TileSource> Checker<T, S> {
         Ok(())
     }
 
-    // Fetches the right edge and checks it, where no tiles are there yet.
+    // Fetches the right edge and checks it, if no tiles are there yet.
     pub(crate) fn fetch_first<A: Allocator + Copy>(
         &self,
         fetched: &mut FetchedTiles<A>,
@@ -171,7 +171,7 @@ impl<T: TreeHash, S: TileSource> Checker<T, S> {
         self.fetch_edge(fetched)
     }
 
-    // Whether the tile that has the hash at this place of a level is a full one.
+    // Reports whether the tile with the hash at this place of a level is full.
     pub(crate) fn is_full(&self, level: u32, place: u64) -> bool
         requires { level ≤ 7 }
         ensures { MatchBool result
@@ -181,7 +181,7 @@ impl<T: TreeHash, S: TileSource> Checker<T, S> {
         place / 256 < partial_tile(self.size, level).index
     }
 
-    // The tile that has the hash at this place of a level.
+    // Returns the tile with the hash at this place of a level.
     fn tile_with(&self, level: u32, place: u64) -> Tile
         requires { level ≤ 7 }
         ensures { result ≡ spec.tile_with self.now.size level place }
@@ -193,7 +193,7 @@ impl<T: TreeHash, S: TileSource> Checker<T, S> {
         }
     }
 
-    // The text of that tile, where it was fetched.
+    // Returns the text of the tile with this hash, or `None` if it wasn't fetched.
     pub(crate) fn text_with<'f, A: Allocator + Copy>(
         &self,
         level: u32,
@@ -208,7 +208,7 @@ impl<T: TreeHash, S: TileSource> Checker<T, S> {
         fetched.text_of(self.tile_with(level, place))
     }
 
-    // The hash at this place of a level, as the tile has it that was fetched for it.
+    // Returns the hash at this place of a level from the tile that was fetched for it.
     fn hash_with<A: Allocator + Copy>(
         &self,
         level: u32,
@@ -227,7 +227,7 @@ impl<T: TreeHash, S: TileSource> Checker<T, S> {
         hash_in(text, (place % 256) as usize)
     }
 
-    // Fetches a full tile, checks it against the tile above, and keeps its tree.
+    // Fetches a full tile, checks it against the tile above, and keeps the hashes of its fold.
     fn fetch_full<A: Allocator + Copy>(
         &self,
         level: u32,
@@ -267,7 +267,7 @@ impl<T: TreeHash, S: TileSource> Checker<T, S> {
         Ok(())
     }
 
-    // Whether the tile that has the hash at this place of a level was fetched.
+    // Reports whether the tile with the hash at this place of a level was fetched.
     fn is_there<A: Allocator + Copy>(
         &self,
         level: u32,
@@ -286,7 +286,7 @@ impl<T: TreeHash, S: TileSource> Checker<T, S> {
         }
     }
 
-    // Fetches the tile that has the hash at this place of a level, and those above it that are not there yet.
+    // Fetches the tile with the hash at this place of a level, and those above it that aren't there yet.
     pub(crate) fn fetch_with<A: Allocator + Copy>(
         &self,
         level: u32,

@@ -14,7 +14,7 @@ use crate::tile_reader::hashes::fold_part;
 use std::alloc::{AllocError, Allocator};
 use tl_hash::{Hash, TreeHash};
 
-// The partial tile of a level in a log of this size; its width is 0 where there is none.
+// Returns the partial tile of a level in a log of this size. If there is none, its width is 0.
 pub(crate) fn partial_tile(size: u64, level: u32) -> Tile
     requires { level ≤ 7 }
     ensures { result ≡ spec.partial_tile size level }
@@ -27,7 +27,7 @@ pub(crate) fn partial_tile(size: u64, level: u32) -> Tile
     }
 }
 
-// The hash over a tile's hashes and, where there is one, a last hash after them.
+// Returns the hash over a tile's hashes and a last hash after them, if there is one.
 fn join_last<T: TreeHash, A: Allocator + Copy>(
     alloc: A,
     h: T,
@@ -50,7 +50,7 @@ fn join_last<T: TreeHash, A: Allocator + Copy>(
     }
 }
 
-// What the partial tiles up to this level fold to, from what those below it fold to.
+// Returns the hash that the partial tiles up to this level fold to, from the one for those below it.
 fn add_level<T: TreeHash, A: Allocator + Copy>(
     h: T,
     fetched: &FetchedTiles<A>,
@@ -75,7 +75,7 @@ fn add_level<T: TreeHash, A: Allocator + Copy>(
     Ok(Some(hash))
 }
 
-// The root that the partial tiles of a log fold to; none of no entries.
+// Returns the root that the partial tiles of a log fold to, or `None` for no entries.
 pub(crate) fn edge_root<T: TreeHash, A: Allocator + Copy>(
     h: T,
     fetched: &FetchedTiles<A>,

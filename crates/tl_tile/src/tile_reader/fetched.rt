@@ -1,4 +1,4 @@
-//! Tiles that were fetched, with their texts.
+//! Fetched tiles, with their texts.
 
 ghost use Rattle.std.specs.Prelude.{◌≡◌, ◌↔◌, ◌∷◌, ◌++◌, ℕ, List, [], length, take_while, IsTrue, MatchOption, IfOk, IfErr, OnErr, Some, None};
 ghost use Rattle.std.specs.List.{prefix_len};
@@ -14,14 +14,14 @@ use crate::source::{SourceFault, TileSource};
 use std::alloc::Allocator;
 use std::marker::Model;
 
-// Whether two tiles are the same.
+// Reports whether two tiles are the same.
 fn is_same(a: Tile, b: Tile) -> bool
     ensures { result ≡ same_tile a b }
 {
     a.level == b.level && a.index == b.index && a.width == b.width
 }
 
-// Whether this is a partial tile, or the full one over the entry with this index, of one of the eight levels.
+// Reports whether a tile is partial, or a full one of the eight levels over the entry with this index.
 fn is_on_path(index: u64, tile: Tile) -> bool
     ensures { result ≡ spec.is_on_path index tile }
 {
@@ -31,7 +31,7 @@ fn is_on_path(index: u64, tile: Tile) -> bool
     tile.level < 8 && (index >> (8 * tile.level)) / 256 == tile.index
 }
 
-// How many tiles from the front on are partial ones, or full ones over the entry with this index.
+// Returns the number of tiles at the front that are partial, or full and over the entry with this index.
 fn path_len<A: Allocator>(tiles: &[(Tile, Vec<u8, A>)], index: u64) -> usize
     ensures { result ≡ prefix_len (λ f. spec.is_on_path index f.0) (texts_of tiles.now) }
 {
@@ -45,7 +45,7 @@ fn path_len<A: Allocator>(tiles: &[(Tile, Vec<u8, A>)], index: u64) -> usize
     count
 }
 
-// The text of a tile, where it is among these.
+// Returns the text of a tile, or `None` if it is not among these.
 fn text_in<A: Allocator>(tiles: &[(Tile, Vec<u8, A>)], tile: Tile) -> Option<&[u8]>
     ensures { MatchOption result
         (tiles_of (texts_of tiles.now) tile ≡ None)
@@ -59,7 +59,7 @@ fn text_in<A: Allocator>(tiles: &[(Tile, Vec<u8, A>)], tile: Tile) -> Option<&[u
     None
 }
 
-/// Tiles of a log as a source answered them, in the order of fetching. Contracts see the list of the tiles with their
+/// Tiles of a log as a source returned them, in the order of fetching. Contracts see the list of the tiles with their
 /// texts.
 #[derive(Drop)]
 pub struct FetchedTiles<A: Allocator> {
@@ -77,7 +77,7 @@ impl<A: Allocator> Model for FetchedTiles<A> {
 }
 
 impl<A: Allocator> FetchedTiles<A> {
-    /// No tiles. Texts will be kept in memory from `alloc`; until then it takes none.
+    /// Returns a list of no tiles. Texts are allocated from `alloc`; an empty list allocates nothing.
     pub fn new(alloc: A) -> FetchedTiles<A>
         ensures { result ≡ [] }
     {
@@ -86,21 +86,21 @@ impl<A: Allocator> FetchedTiles<A> {
         }
     }
 
-    /// The tiles with their texts.
+    /// Returns the tiles with their texts.
     pub fn as_slice(&self) -> &[(Tile, Vec<u8, A>)]
         ensures { texts_of result.now ≡ self.now }
     {
         &self.tiles
     }
 
-    /// Whether there is none.
+    /// Reports whether there is none.
     pub fn is_empty(&self) -> bool
         ensures { IsTrue result ↔ (self.now ≡ []) }
     {
         self.tiles.is_empty()
     }
 
-    /// The text of a tile, where it is among these.
+    /// Returns the text of a tile, or `None` if it is not among these.
     pub fn text_of(&self, tile: Tile) -> Option<&[u8]>
         ensures { MatchOption result
             (tiles_of self.now tile ≡ None)
@@ -109,7 +109,7 @@ impl<A: Allocator> FetchedTiles<A> {
         text_in(&self.tiles, tile)
     }
 
-    // The text of the tile that was fetched last.
+    // Returns the text of the tile that was fetched last.
     pub(crate) fn last_text(&self) -> Option<&[u8]>
         ensures { MatchOption result (self.now ≡ [])
             (λ text. (t : Tile) × IsLast t text.now self.now) }
@@ -120,9 +120,9 @@ impl<A: Allocator> FetchedTiles<A> {
         }
     }
 
-    /// Lets the tiles go from the first full one on that isn't over the entry with this index. Of tiles that passed all
-    /// checks in the order of a read those that stay did, too, and they are at most fifteen: a read of that entry goes on
-    /// from them.
+    /// Drops all tiles from the first full one on that isn't over the entry with this index. If the tiles passed all
+    /// checks in the order of a read, so have those that stay, which are at most fifteen. A read of that entry goes
+    /// on from them.
     pub fn keep_path(&mut self, index: u64)
         ensures path { self.new ≡ take_while (λ f. spec.is_on_path index f.0) self.old }
         ensures passed { (H : Digest) (size : ℕ) (root : Bytes)
@@ -132,7 +132,7 @@ impl<A: Allocator> FetchedTiles<A> {
         self.tiles.truncate(count);
     }
 
-    // Lets all tiles go.
+    // Drops all tiles.
     pub(crate) fn clear(&mut self)
         ensures { self.new ≡ [] }
     {
@@ -141,13 +141,13 @@ impl<A: Allocator> FetchedTiles<A> {
 }
 
 impl<A: Allocator + Copy> FetchedTiles<A> {
-    // What memory is asked from.
+    // Returns the allocator.
     pub(crate) fn allocator(&self) -> A {
         *self.tiles.allocator()
     }
 
-    // Fetches a tile, keeps it with its text, and gives the text's length. Its room is taken first, so that no text
-    // that was fetched is lost.
+    // Fetches a tile, keeps it with its text, and returns the length of the text. It reserves room first, so that no
+    // text that was fetched is lost.
     pub(crate) fn fetch<S: TileSource>(
         &mut self,
         source: &S,

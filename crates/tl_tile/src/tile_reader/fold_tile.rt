@@ -1,4 +1,4 @@
-//! All hashes that the hashes of a full tile fold to.
+//! All hashes of the fold of a full tile.
 
 ghost use Rattle.std.specs.Prelude.{◌≡◌, ◌<◌, ◌+◌, ◌*◌, ℕ, List, [], length, IfOk, OnOk, slice_index_or};
 ghost use Rattle.tl_hash.specs.Bytes.{Bytes};
@@ -9,7 +9,7 @@ use crate::tile_reader::hashes::hash_in;
 use std::alloc::{AllocError, Allocator};
 use tl_hash::{Hash, TreeHash, hash_four_nodes, node_hash};
 
-// The hashes of a full tile.
+// Returns the hashes of a full tile.
 fn own_hashes<A: Allocator>(alloc: A, text: &[u8]) -> Result<Vec<Hash, A>, AllocError>
     requires { length text.now ≡ 8192 }
     ensures many { IfOk result (λ hashes. length hashes.items ≡ 256) }
@@ -23,7 +23,7 @@ fn own_hashes<A: Allocator>(alloc: A, text: &[u8]) -> Result<Vec<Hash, A>, Alloc
     Ok(hashes)
 }
 
-// Adds the nodes over the next four pairs of a tile's tree.
+// Adds the nodes over the next four pairs of hashes of a tile's tree.
 fn push_four<T: TreeHash, A: Allocator>(
     h: T,
     hashes: &mut Vec<Hash, A>,
@@ -39,7 +39,7 @@ fn push_four<T: TreeHash, A: Allocator>(
     Ok(())
 }
 
-// The hashes of a full tile, then those of each two of them, and so on up to the one hash of the tile.
+// Returns the hashes of a full tile, then the nodes over each two of them, and so on up to the one hash of the tile.
 pub(crate) fn fold_tile<T: TreeHash, A: Allocator>(
     alloc: A,
     h: T,

@@ -1,4 +1,4 @@
-//! The hashes that the texts of tiles hold, and what they fold to.
+//! The hashes in the texts of tiles, and the hashes that they fold to.
 
 ghost use Rattle.std.specs.Prelude.{◌≡◌, ◌+◌, ◌*◌, ◌<◌, ◌≤◌, [], length, slice_index_or};
 ghost use Rattle.std.specs.Int.{IsPowerOfTwo};
@@ -7,7 +7,7 @@ ghost use Rattle.tl_tile.specs.Inner.EdgeRoot.{Part};
 
 use tl_hash::{Hash, TreeHash, hash_level, node_hash, split_point};
 
-// The hash with this number in a tile's text.
+// Returns the hash with this number in a tile's text.
 pub(crate) fn hash_in(text: &[u8], number: usize) -> Hash
     requires { 32 * number + 32 ≤ length text.now }
     ensures { IsHashAt text.now number result }
@@ -17,8 +17,8 @@ pub(crate) fn hash_in(text: &[u8], number: usize) -> Hash
     Hash::from_bytes(bytes)
 }
 
-// What four parts of a tile's hashes fold to, each of so many hashes: the first part begins at this one, the next
-// parts each so far on. The recursion goes down the four parts in step.
+// Returns the hashes that four parts of a tile's hashes fold to. Each part has `count` hashes; the first part begins
+// at hash `start`, and each next one `apart` hashes later. The recursion goes down the four parts in step.
 fn fold_four_parts<T: TreeHash>(
     h: T,
     text: &[u8],
@@ -47,7 +47,8 @@ fn fold_four_parts<T: TreeHash>(
     hash_level(h, &left, &right)
 }
 
-// What four times so many hashes of a tile fold to, from this one on, by their quarters side by side.
+// Returns the hash that `4 * quarter` hashes of a tile fold to, from hash `start` on. Its quarters are folded side by
+// side.
 fn fold_quarters<T: TreeHash>(h: T, text: &[u8], start: usize, quarter: usize) -> Hash
     requires power { IsPowerOfTwo quarter }
     requires some { 0 < quarter }
@@ -60,8 +61,8 @@ fn fold_quarters<T: TreeHash>(h: T, text: &[u8], start: usize, quarter: usize) -
     node_hash(h, left, right)
 }
 
-// What so many hashes of a tile fold to, from this one on. Where their number is a power of two, 4 or more, their
-// quarters are folded side by side.
+// Returns the hash that `count` hashes of a tile fold to, from hash `start` on. If `count` is a power of two and at
+// least 4, the quarters are folded side by side.
 pub(crate) fn fold_part<T: TreeHash>(h: T, text: &[u8], start: usize, count: usize) -> Hash
     requires some { 0 < count }
     requires inside { 32 * (start + count) ≤ length text.now }

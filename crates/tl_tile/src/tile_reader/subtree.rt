@@ -29,7 +29,7 @@ pub(crate) struct Subtree {
     pub(crate) place: u64,
 }
 
-// The complete subtree whose hash is stored under this number.
+// Returns the complete subtree whose stored hash has this number.
 fn subtree_of(index: u64, size: u64) -> Subtree
     requires size { size ≤ 2 ^ 62 }
     requires index { index < stored.stored_count size }
@@ -41,7 +41,7 @@ fn subtree_of(index: u64, size: u64) -> Subtree
 }
 
 impl<T: TreeHash, S: TileSource> Checker<T, S> {
-    // The hash of a subtree from the tree of the full tile with its hashes, where that was kept.
+    // Returns the hash of a subtree from the fold of the full tile with its hashes, or `None` if that wasn't kept.
     fn tree_hash<A: Allocator + Copy>(
         &self,
         subtree: Subtree,
@@ -69,7 +69,7 @@ impl<T: TreeHash, S: TileSource> Checker<T, S> {
         Some(hashes[number])
     }
 
-    // The hash of a subtree, from a tree that was kept, or from the text of the tile with its hashes.
+    // Returns the hash of a subtree from a fold that was kept, or else from the text of the tile with its hashes.
     fn subtree_hash<A: Allocator + Copy>(
         &self,
         subtree: Subtree,
@@ -97,7 +97,7 @@ impl<T: TreeHash, S: TileSource> Checker<T, S> {
         fold_part(self.h, text, (first % 256) as usize, count as usize)
     }
 
-    // Reads the stored hash of one subtree, and fetches what it needs for it.
+    // Reads the stored hash of one subtree, and fetches the tiles it needs.
     fn read_subtree<A: Allocator + Copy>(
         &self,
         subtree: Subtree,
@@ -127,8 +127,8 @@ impl<T: TreeHash, S: TileSource> Checker<T, S> {
         Ok(self.subtree_hash(subtree, first, count, fetched, trees))
     }
 
-    // The stored hashes with these numbers, in this order. Tiles that passed all checks are neither fetched nor hashed
-    // again.
+    // Returns the stored hashes with these numbers, in order. Tiles that passed all checks are neither fetched nor
+    // hashed again.
     pub(crate) fn read_numbers<A: Allocator + Copy, B: Allocator>(
         &self,
         alloc: B,

@@ -1,4 +1,4 @@
-//! The full tiles that a read has checked, each with all hashes that it folds to.
+//! The full tiles that a read has checked, each with all hashes of its fold.
 
 ghost use Rattle.std.specs.Prelude.{◌≡◌, ℕ, MatchOption, OnOk, Some, None};
 ghost use Rattle.tl_tile.specs.Inner.TreeKeys.{trees_in};
@@ -7,14 +7,14 @@ use std::alloc::{AllocError, Allocator};
 use std::collections::BTreeMap;
 use tl_hash::Hash;
 
-// The hashes of checked tiles, by the tile's level and index, in the order in which `fold_tile` makes them.
+// The hashes of the folds of checked tiles, by level and index, each in the order of `fold_tile`.
 #[derive(Drop)]
 pub(crate) struct TileTrees<A: Allocator> {
     pub(crate) map: BTreeMap<(u32, u64), Vec<Hash, A>, A>,
 }
 
 impl<A: Allocator> TileTrees<A> {
-    // No trees.
+    // Returns an empty map.
     pub(crate) fn new(alloc: A) -> TileTrees<A>
         ensures { (level index : ℕ) → trees_in result.map level index ≡ None }
     {
@@ -23,7 +23,7 @@ impl<A: Allocator> TileTrees<A> {
         }
     }
 
-    // The tree of the full tile of a level with this index.
+    // Returns the fold of the full tile of a level with this index, or `None` if it wasn't kept.
     pub(crate) fn tree_of(&self, level: u32, index: u64) -> Option<&[Hash]>
         ensures { MatchOption result
             (trees_in self.now.map level index ≡ None)
@@ -37,7 +37,7 @@ impl<A: Allocator> TileTrees<A> {
 }
 
 impl<A: Allocator + Copy> TileTrees<A> {
-    // Keeps the tree of a full tile.
+    // Keeps the fold of a full tile.
     pub(crate) fn keep(
         &mut self,
         level: u32,

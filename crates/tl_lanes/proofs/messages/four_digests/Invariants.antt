@@ -3,7 +3,7 @@ use Rattle.sha2.specs.Sha256.{hash_after, initial_hash_256, padded_message, sha2
 use Rattle.tl_lanes.specs.Lanes.{lane}
 use Rattle.tl_lanes.proofs.messages.four_digests.Given as goal
 
--- lane j of the state has taken in t blocks of the message, where it has as many
+-- lane j of the state has taken in t blocks of the message, if it has as many
 abbrev pub HasTaken : List (List ℕ) → ℕ → List ℕ → ℕ → ℕ → Type 0
 HasTaken state j m last t = t ≤ last + 1 → lane j state ≡ hash_after initial_hash_256 (padded_message m) t
 

@@ -2,7 +2,7 @@ use Rattle.std.proofs.Common.{◌↔◌, All, length}
 use Rattle.tl_proof.specs.Acceptance.{AcceptsInclusion}
 use Rattle.tl_records.proofs.checking.check_records.Given as goal
 
--- all are accepted where all that are left are
+-- all are accepted if all that are left are
 abbrev pub invariant-loop-left : goal.invariant-loop-left
 invariant-loop-left g l =
     All (λ r. AcceptsInclusion g.T.TreeHash.digest_of r.proof.now l.size l.root r.index r.leaf) l.records

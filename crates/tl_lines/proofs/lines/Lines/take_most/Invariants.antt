@@ -3,7 +3,7 @@ use Rattle.tl_device.specs.Device.{passage}
 use Rattle.tl_lines.specs.Reading.{TellsOf, all_entries}
 use Rattle.tl_lines.proofs.lines.Lines.take_most.Given as goal
 
--- the lines so far were told
+-- the lines so far were reported
 abbrev pub invariant-loop-line : goal.invariant-loop-line
 invariant-loop-line g l = record {
   count : length l.lines.items ≡ l._line;
