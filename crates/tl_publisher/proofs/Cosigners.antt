@@ -19,7 +19,7 @@ use Rattle.tl_checkpoint.specs.Quorum.{AreFirst, IsBy}
 use Rattle.tl_publisher.specs.declared.fault.AttachFault.{AttachFault}
 use Rattle.tl_publisher.specs.declared.fault.AttachFault.TheVariants as attach
 use Rattle.tl_log.specs.Histories.{Prefix, last_of}
-use Rattle.tl_publisher.specs.Seen.{Past}
+use Rattle.tl_publisher.specs.Pasts.{Past}
 use Rattle.tl_log.specs.Checkpoints.{text_of_log}
 use Rattle.tl_publisher.specs.Signed.{IsSignedNote, IsByWitness, AreCosigned, no_quorum}
 use Rattle.tl_publisher.specs.Stages.{IsNextOf}

@@ -21,7 +21,7 @@ use Rattle.tl_publisher.specs.declared.fault.OperatorFault.{OperatorFault}
 use Rattle.tl_publisher.specs.declared.fault.OperatorFault.TheVariants as operator
 use Rattle.tl_checkpoint.specs.Quorum.{AreApart}
 use Rattle.tl_log.specs.Histories.{Prefix, Begins, BeginWith, AreOf, IsGrowing, last_of}
-use Rattle.tl_publisher.specs.Seen.{Past}
+use Rattle.tl_publisher.specs.Pasts.{Past}
 use Rattle.tl_publisher.specs.Stages.{IsNextOf}
 use Rattle.tl_log.specs.Checkpoints.{text_of_log}
 use Rattle.tl_publisher.specs.Signed.{AreSigners, IsSignedNote, IsByWitness, AreSignedBy, Quorum, no_quorum}

@@ -13,7 +13,7 @@ use Rattle.tl_note.specs.Key.{SigningKey}
 use Rattle.tl_checkpoint.specs.Quorum.{AreApart}
 use Rattle.tl_sequencer.specs.Log.{Log, entries_of}
 use Rattle.tl_log.specs.Histories.{Prefix, AreOf, BeginWith, Begins, IsGrowing, last_of}
-use Rattle.tl_publisher.specs.Seen.{Past}
+use Rattle.tl_publisher.specs.Pasts.{Past}
 use Rattle.tl_publisher.specs.Boards.{Board, face_head, head_if}
 use Rattle.tl_log.specs.Checkpoints.{text_of_log}
 use Rattle.tl_publisher.specs.Signed.{AreSigners, IsSignedNote, AreSignedBy, Quorum, no_quorum}

@@ -10,7 +10,7 @@ use Rattle.tl_sequencer.specs.Opened.{IsOpened}
 use Rattle.tl_sequencer.specs.Steps.{IsComplete, sent_of}
 use Rattle.tl_checkpoint.specs.Quorum.{AreApart}
 use Rattle.tl_log.specs.Histories.{Prefix, AreOf, BeginWith, Begins, IsGrowing, last_of}
-use Rattle.tl_publisher.specs.Seen.{Past}
+use Rattle.tl_publisher.specs.Pasts.{Past}
 use Rattle.tl_log.specs.Checkpoints.{text_of_log}
 use Rattle.tl_publisher.specs.Signed.{AreSigners, AreSignedBy, IsSignedNote, Quorum, no_quorum}
 use Rattle.tl_publisher.specs.Stages.{IsNextOf}

@@ -15,7 +15,7 @@ use Rattle.tl_publisher.specs.declared.fault.RequireFault.TheVariants as require
 use Rattle.tl_publisher.specs.declared.fault.AttachFault.{AttachFault}
 use Rattle.tl_publisher.specs.declared.fault.AttachFault.TheVariants as attach
 use Rattle.tl_log.specs.Histories.{Prefix}
-use Rattle.tl_publisher.specs.Seen.{Past}
+use Rattle.tl_publisher.specs.Pasts.{Past}
 use Rattle.tl_log.specs.Checkpoints.{text_of_log}
 use Rattle.tl_publisher.specs.Signed.{IsSignedNote, Quorum, no_quorum}
 use Rattle.tl_publisher.specs.Operating.{Operated}

@@ -72,9 +72,9 @@ pub struct Board<R: Wait + Drop> {
 }
 
 impl<R: Wait + Drop> Model for Board<R> {
-    ghost use Rattle.tl_publisher.specs.Seen as seen;
+    ghost use Rattle.tl_publisher.specs.Pasts as pasts;
 
-    ghost Value = { seen.Past };
+    ghost Value = { pasts.Past };
 
     ghost view = { λ b. b.writer.past };
 }

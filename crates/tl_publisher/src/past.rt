@@ -2,7 +2,7 @@
 ghost use Rattle.std.specs.Prelude.{◌≡◌, ◌+◌, ◌<◌, ◌^◌, ◌++◌, ◌∷◌, [], length, MatchBool};
 ghost use Rattle.tl_log.specs.Histories as histories;
 ghost use Rattle.tl_log.specs.Histories.{StartsWith};
-ghost use Rattle.tl_publisher.specs.Seen.{Grew};
+ghost use Rattle.tl_publisher.specs.Pasts.{Grew};
 ghost use Rattle.tl_publisher.specs.Pages.{head_of};
 
 use logbook::{Gain, Offer, Plain, Play, Rule, Seen, Start, Word};
@@ -87,9 +87,9 @@ pub struct Past {
 
 impl Model for Past {
     ghost use Rattle.std.specs.Prelude.{◌≡◌, length};
-    ghost use Rattle.tl_publisher.specs.Seen as seen;
+    ghost use Rattle.tl_publisher.specs.Pasts as pasts;
 
-    ghost Value = { seen.Past };
+    ghost Value = { pasts.Past };
 
     ghost view = { λ p. record { book = p.seen.book; log = p.seen.log } };
 

@@ -4,7 +4,7 @@ ghost use Rattle.left_right.specs.Sides.{view};
 ghost use Rattle.sha2.specs.Sha256.{sha256};
 ghost use Rattle.tl_publisher.specs.Boards as boards;
 ghost use Rattle.tl_log.specs.Histories.{StartsWith, last_of};
-ghost use Rattle.tl_publisher.specs.Seen.{Grew};
+ghost use Rattle.tl_publisher.specs.Pasts.{Grew};
 ghost use Rattle.tl_publisher.specs.Rules.{knows};
 ghost use Rattle.tl_publisher.specs.Stages as stages;
 ghost use Rattle.tl_publisher.specs.Answers.{AnswersBytes, AnswersHead, Sees};
@@ -30,10 +30,10 @@ pub struct BoardReader<A: Allocator> {
 impl<A: Allocator> Model for BoardReader<A> {
     ghost use Rattle.std.specs.Prelude.{◌≡◌};
     ghost use Rattle.left_right.specs.Sides as sides;
-    ghost use Rattle.tl_publisher.specs.Seen as seen;
+    ghost use Rattle.tl_publisher.specs.Pasts as pasts;
     ghost use Rattle.tl_publisher.specs.Rules.{knows};
 
-    ghost Value = { seen.Past };
+    ghost Value = { pasts.Past };
 
     ghost view = { λ r. r.past };
 

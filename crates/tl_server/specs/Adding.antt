@@ -4,7 +4,7 @@ use Rattle.tl_archive.specs.Shelves.{Held}
 use Rattle.tl_archive.specs.declared.fault.ShelfFault.{ShelfFault}
 use Rattle.tl_hash.specs.Bytes.{Bytes}
 use Rattle.tl_http.specs.FieldValues.{fields_of}
-use Rattle.tl_publisher.specs.Seen.{Past}
+use Rattle.tl_publisher.specs.Pasts.{Past}
 use Rattle.tl_tile.specs.Bundle.{most_entry, bundle_text, AreEntries, IsBundle}
 use Rattle.tl_tile.specs.Needed.{bundle_width}
 use Rattle.tl_tile.specs.declared.resource.Resource.{Resource}

@@ -10,7 +10,7 @@ use Rattle.tl_archive.specs.Shelves.{Held}
 use Rattle.tl_archive.specs.declared.fault.ShelfFault.{ShelfFault}
 use Rattle.tl_publisher.specs.Answers.{AnswersBytes}
 use Rattle.tl_publisher.specs.Boards.{shown}
-use Rattle.tl_publisher.specs.Seen.{Past}
+use Rattle.tl_publisher.specs.Pasts.{Past}
 use Rattle.tl_publisher.specs.declared.fault.GetFault.{GetFault}
 use Rattle.tl_publisher.specs.declared.fault.GetFault.TheVariants.{Gone, OutOfMemory}
 use Rattle.tl_witness.specs.Cases.{Unless, UnlessSome}

@@ -4,7 +4,7 @@ use Rattle.tl_archive.specs.Shelves.{Held}
 use Rattle.tl_archive.specs.declared.fault.ShelfFault.{ShelfFault}
 use Rattle.tl_device.specs.Device.{Passage}
 use Rattle.tl_hash.specs.Bytes.{Bytes}
-use Rattle.tl_publisher.specs.Seen.{Past}
+use Rattle.tl_publisher.specs.Pasts.{Past}
 use Rattle.tl_tile.specs.declared.resource.Resource.{Resource}
 use Rattle.tl_server.specs.Adding.{Course, StatusAnswers, LooksOnce, LooksTwice}
 use Rattle.tl_server.specs.Log.{LooksUp, ReadsShelf}

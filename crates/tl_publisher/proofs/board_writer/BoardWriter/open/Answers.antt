@@ -1,5 +1,5 @@
 use Rattle.std.proofs.Common.{refl, ap, ◌∙◌}
-use Rattle.tl_publisher.specs.Seen.{Past}
+use Rattle.tl_publisher.specs.Pasts.{Past}
 use Rattle.tl_publisher.proofs.Moves.{names, empty-shown}
 use Rattle.tl_publisher.proofs.board_writer.BoardWriter.open.Goals as goal
 

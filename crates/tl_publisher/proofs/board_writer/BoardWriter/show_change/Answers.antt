@@ -2,7 +2,7 @@ use Rattle.std.proofs.Common.{◌≡◌, [], ◌∷◌, ◌++◌, drop, fold, re
 use Rattle.std.proofs.lemmas.Grind.{common_steps}
 use Rattle.left_right.specs.Sides.{view}
 use Rattle.sha2.specs.Sha256.{sha256}
-use Rattle.tl_publisher.specs.Seen.{Past}
+use Rattle.tl_publisher.specs.Pasts.{Past}
 use Rattle.tl_publisher.specs.Boards.{Board}
 use Rattle.tl_publisher.specs.Stages.{Held, Step, visible, laid, turned, moved, IsShown, IsChangeFor}
 use Rattle.tl_publisher.specs.Rules.{knows}

@@ -4,7 +4,7 @@ use Rattle.std.proofs.lemmas.List.Elements.{All-take}
 use Rattle.tl_tile.specs.Bundle.{IsShortEntry}
 use Rattle.tl_sequencer.specs.Log.{entries_of}
 use Rattle.tl_log.specs.Histories.{last_of, last_size}
-use Rattle.tl_publisher.specs.Seen.{Past}
+use Rattle.tl_publisher.specs.Pasts.{Past}
 use Rattle.tl_publisher.specs.Stages.{IsNextOf}
 use Rattle.tl_publisher.specs.Running.{Running}
 use Rattle.tl_publisher.proofs.Runs.{length_history, taken_size, change_for, last_is, shown_running, all_short}
