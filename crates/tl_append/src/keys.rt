@@ -109,7 +109,7 @@ impl Verifier for LogOpeningKey {
 
 /// The keys of a log: one that signs, and one that opens what that signed.
 #[derive(Drop)]
-pub struct LogKeys {
+pub struct OperatorKeys {
     /// Signs.
     pub signer: LogSigningKey,
     /// Opens what `signer` signed.
@@ -134,13 +134,13 @@ pub fn keys_of<H: Files>(
     alloc: Global,
     origin: &str,
     key: &LogKey,
-) -> Result<LogKeys, RunFault>
+) -> Result<OperatorKeys, RunFault>
     ensures signer { IfOk result (λ keys. IsLogKey key.now origin.now (log_key_of keys.signer)) }
     ensures both { IfOk result (λ keys. AreLogKeys key.now origin.now
         (log_key_of keys.signer) (opening_key_of keys.verifier)) }
 {
     match key {
-        LogKey::Secret(secret) => Ok(LogKeys {
+        LogKey::Secret(secret) => Ok(OperatorKeys {
             signer: LogSigningKey::Demonstration(demonstration(alloc, origin, secret)?),
             verifier: LogOpeningKey::Demonstration(demonstration(alloc, origin, secret)?),
         }),
@@ -152,7 +152,7 @@ pub fn keys_of<H: Files>(
             }
             let verifier = LogOpeningKey::Public(key.verifier(alloc)?);
             let signer = LogSigningKey::Private(key);
-            Ok(LogKeys { signer, verifier })
+            Ok(OperatorKeys { signer, verifier })
         }
     }
 }

@@ -13,7 +13,7 @@
 //! `run_append` is the command: it opens the log and appends the lines of an input in batches.
 //!
 //! ```rust
-//! let LogKeys { signer, verifier } = keys_of(&rt, alloc, "example.com/log", &key)?;
+//! let OperatorKeys { signer, verifier } = keys_of(&rt, alloc, "example.com/log", &key)?;
 //! let sealer = Cosigners::new(asker, quorum); // or `AsSigned`, if no witness has to cosign
 //! let mut shelf = SealedShelf::new(shelf, store, sealer, false);
 //! let mut found = Found::new(alloc); // what was read to open the log
@@ -47,7 +47,7 @@ pub use appending::append_lines;
 pub use batch::append_batch;
 pub use cosigners::{AsksCosigners, ChecksCosigned, LogQuorum};
 pub use faults::line_fault;
-pub use keys::{LogKeys, LogOpeningKey, LogSigningKey, keys_of};
+pub use keys::{LogOpeningKey, LogSigningKey, OperatorKeys, keys_of};
 pub use log_shelf::{LogShelf, OpenedLog};
 pub use opening::{check_asked, check_start, open_ledger};
 pub use options::{AppendOptions, Batching, Joining};

@@ -14,7 +14,7 @@ ghost use Rattle.tl_append.specs.Running.{MarksLast, Stays, batch_size, visit};
 ghost use Rattle.tl_append.specs.Inner.Under.{GoesOnUnder};
 
 use crate::appending::append_lines;
-use crate::keys::{LogKeys, keys_of};
+use crate::keys::{OperatorKeys, keys_of};
 use crate::opening::{check_asked, check_start, open_ledger};
 use crate::options::{AppendOptions, Batching, Joining};
 use crate::proposal::ProposalStore;
@@ -30,7 +30,7 @@ use tl_run::RunFault;
 // Appends the lines of the input to the log on the shelf under these keys.
 fn append_under<S: Shelf, P: ProposalStore, R: Read, W: Write>(
     alloc: Global,
-    keys: LogKeys,
+    keys: OperatorKeys,
     options: &AppendOptions,
     start: Option<u64>,
     joining: Joining,
@@ -59,7 +59,7 @@ fn append_under<S: Shelf, P: ProposalStore, R: Read, W: Write>(
         (passage R.remaining reader.old reader.new) ⊎ IsStart start (found_size found.new.head) }
     ensures place { S.place shelf.new ≡ S.place shelf.old }
 {
-    let LogKeys { signer, verifier } = keys;
+    let OperatorKeys { signer, verifier } = keys;
     let allows_older = options.allows_older;
     let opened = match open_ledger(alloc, verifier, allows_older, shelf, store, found) {
         Ok(opened) => opened,

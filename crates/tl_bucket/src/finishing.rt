@@ -22,7 +22,7 @@ use std::alloc::Global;
 use std::fs::Files;
 use std::net::{Net, TcpStream};
 use std::time::Clock;
-use tl_append::{LogKeys, NoProposals, append_batch, keys_of, open_ledger};
+use tl_append::{NoProposals, OperatorKeys, append_batch, keys_of, open_ledger};
 use tl_folder::CrashOutcome;
 use tl_ledger::{Found, Ledger};
 use tl_note::is_key_name;
@@ -209,7 +209,7 @@ pub fn finish_log<
     if !is_key_name(origin) {
         return Err(RunFault::BadOrigin);
     }
-    let LogKeys { signer, verifier } = match keys_of(rt, alloc, origin, key) {
+    let OperatorKeys { signer, verifier } = match keys_of(rt, alloc, origin, key) {
         Ok(keys) => keys,
         Err(fault) => return Err(fault),
     };

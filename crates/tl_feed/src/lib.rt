@@ -73,7 +73,7 @@ pub use growing::growth_from;
 pub use http::HttpWitness;
 pub use law::honest_growth_is_accepted;
 pub use lines::line_of;
-pub use proposed::{AsksWitness, LogKeys, Proposed};
+pub use proposed::{AsksWitness, LogIdentity, Proposed};
 pub use question::{Question, WitnessAnswer};
 pub use rounds::ask_in_rounds;
 pub use shelf::ShelfReader;

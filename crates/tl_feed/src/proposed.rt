@@ -8,7 +8,7 @@ use tl_note::Verifier;
 
 /// The name and the keys of a log, under which its checkpoints open (C2SP tlog-checkpoint).
 #[derive(Drop)]
-pub struct LogKeys<'p> {
+pub struct LogIdentity<'p> {
     /// The log's name.
     pub origin: &'p str,
     /// The log's keys.

@@ -7,7 +7,7 @@ use crate::ballot::Ballot;
 use crate::failing::{Failure, is_told, next_failure};
 use crate::fault::AskFault;
 use crate::lines::line_of;
-use crate::proposed::{AsksWitness, LogKeys, Proposed};
+use crate::proposed::{AsksWitness, LogIdentity, Proposed};
 use crate::unasked::Unasked;
 use std::alloc::Global;
 use std::sync::Wait;
@@ -21,7 +21,7 @@ use tl_note::Verifier;
 fn line_by<S: ResourceSource, Q: AsksWitness>(
     alloc: Global,
     source: &S,
-    log: &LogKeys<'_>,
+    log: &LogIdentity<'_>,
     note: &str,
     known: &mut u64,
     asker: &mut Q,
@@ -64,7 +64,7 @@ pub fn ask_in_rounds<R: Wait + Clock, S: ResourceSource, Q: AsksWitness>(
     ballot: &Ballot,
     place: usize,
     source: &S,
-    log: &LogKeys<'_>,
+    log: &LogIdentity<'_>,
     asker: &mut Q,
     keys: &[Box<dyn Verifier>],
 ) {

@@ -12,7 +12,7 @@ use std::time::{Clock, Duration};
 use tl_append::{AsksCosigners, ProposalStore};
 use tl_archive::Shelf;
 use tl_device::Counted;
-use tl_feed::{Ballot, BallotEvent, HttpWitness, LogKeys, ShelfReader, Unasked, ask_in_rounds};
+use tl_feed::{Ballot, BallotEvent, HttpWitness, LogIdentity, ShelfReader, Unasked, ask_in_rounds};
 use tl_note::Verifier;
 use tl_run::{RunFault, print_text};
 use tl_source::Url;
@@ -93,7 +93,7 @@ impl<H: Wait + Clock + Net<Stream = TcpStream>, P: Shelf + Drop> AsksInRounds<P>
             url: *url,
             limit: self.limit,
         };
-        let log = LogKeys {
+        let log = LogIdentity {
             origin: self.origin,
             keys: self.log,
         };

@@ -23,7 +23,7 @@ use std::net::{Net, TcpListener, TcpStream};
 use std::os::fd::RawFd;
 use std::sync::Arc;
 use std::thread::{Threads, available_parallelism};
-use tl_append::{LogKeys, keys_of};
+use tl_append::{OperatorKeys, keys_of};
 use tl_device::Counted;
 use tl_lines::Lines;
 use tl_note::{Signer, Verifier, is_key_name};
@@ -219,7 +219,7 @@ pub fn serve_gated<
         return Err(RunFault::BadOrigin);
     }
     let gate: &G = &gate;
-    let LogKeys { signer, verifier } = keys_of(rt, alloc, origin, &options.key)?;
+    let OperatorKeys { signer, verifier } = keys_of(rt, alloc, origin, &options.key)?;
     let opens: [Box<dyn Verifier>; 1] = [Box::new(alloc, verifier)?];
     let mut signers: Vec<Box<dyn Signer>> = Vec::new(alloc);
     signers.push(Box::new(alloc, signer)?)?;

@@ -22,7 +22,7 @@ use std::thread;
 use std::thread::Scope;
 use std::time::Duration;
 use tl_append::{
-    ChecksCosigned, Cosigners, LogKeys, LogOpeningKey, LogQuorum, ProposalStore, SealedShelf,
+    ChecksCosigned, Cosigners, LogOpeningKey, LogQuorum, OperatorKeys, ProposalStore, SealedShelf,
     keys_of,
 };
 use tl_archive::Shelf;
@@ -78,7 +78,7 @@ fn prepare<'o, H: Host>(
     let witnesses = keys_of_asked(alloc, asked)?;
     let urls = urls_of_asked(alloc, asked)?;
     let ballot = Arc::new(alloc, Ballot::new(alloc, asked.len())?)?;
-    let LogKeys { verifier, .. } = keys_of(rt, alloc, options.origin.as_str(), &options.key)?;
+    let OperatorKeys { verifier, .. } = keys_of(rt, alloc, options.origin.as_str(), &options.key)?;
     Ok(Ready {
         log: verifier,
         witnesses,

@@ -27,7 +27,9 @@ use crate::shelf_log::ShelfLog;
 use std::alloc::{AllocError, Global};
 use std::io::{Read, Write};
 use std::net::{Net, TcpListener, TcpStream};
-use tl_append::{LogKeys, LogOpeningKey, LogShelf, OpenedLog, check_asked, check_start, keys_of};
+use tl_append::{
+    LogOpeningKey, LogShelf, OpenedLog, OperatorKeys, check_asked, check_start, keys_of,
+};
 use tl_archive::Shelf;
 use tl_device::Counted;
 use tl_ledger::Found;
@@ -191,7 +193,7 @@ fn serve_under<
 >(
     server: &Server<'_, H, OpenGate>,
     site: &Site<'_>,
-    keys: LogKeys,
+    keys: OperatorKeys,
     start: Option<u64>,
     shelf: S,
     shown: Vec<P>,
@@ -208,7 +210,7 @@ fn serve_under<
         ⊎ BeginsAsAsked server.now.options.now.is_new found.new.head }
     ensures place { S.place result.shelf ≡ S.place shelf }
 {
-    let LogKeys { signer, verifier } = keys;
+    let OperatorKeys { signer, verifier } = keys;
     let (alloc, options) = (server.alloc, server.options);
     let mut shelf = shelf;
     let opened = match open_log(
