@@ -1,12 +1,17 @@
 -- One request to a log that takes entries, over a reader and a writer.
-use Rattle.std.specs.Prelude.{◌≡◌, ◌≢◌, ℕ, [], Option, Some, None, Result, Ok, Err}
+use Rattle.std.specs.Prelude.{◌≡◌, ◌≢◌, ℕ, [], Bool, Option, Some, None, Result, Ok, Err}
+use Rattle.tl_archive.specs.Shelves.{Held}
+use Rattle.tl_archive.specs.declared.fault.ShelfFault.{ShelfFault}
 use Rattle.tl_device.specs.Device.{Passage, HasFailed, IsUnwritten, WroteWhole, WrotePart}
 use Rattle.tl_hash.specs.Bytes.{Bytes}
 use Rattle.tl_witness.specs.Cases.{UnlessSome}
-use Rattle.tl_server.specs.Adding.{Course, Reply, Misplace, Postpone}
+use Rattle.tl_publisher.specs.Pasts.{Past}
+use Rattle.tl_tile.specs.declared.resource.Resource.{Resource}
+use Rattle.tl_server.specs.Adding.{Course, Reply, Misplace, Postpone, OpenLogDecides, OpenShelfDecides}
 use Rattle.tl_server.specs.Answer.{bare, answer_text}
 use Rattle.tl_server.specs.Exchange.{Begun, Begins, IsHeadless}
 use Rattle.tl_server.specs.Serve.{Came}
+use Rattle.tl_server.specs.declared.adding.EntryStatus.{EntryStatus}
 use Rattle.tl_server.specs.declared.adding.Outcome.{Outcome}
 use Rattle.tl_server.specs.declared.adding.Outcome.TheVariants.{Nothing, Answered, Later, Misplaced}
 use Rattle.tl_server.specs.declared.fault.ServeFault.{ServeFault}
@@ -48,3 +53,18 @@ ServesOpen Idle Courses i o (Ok (Answered status)) = Took Courses i o (Ok (Answe
 ServesOpen Idle Courses i o (Ok Later) = Took Courses i o (Ok Later)
 ServesOpen Idle Courses i o (Ok Misplaced) = Took Courses i o (Ok Misplaced)
 ServesOpen Idle Courses i o (Err Write) = Took Courses i o (Err Write)
+
+-- one request to a log with a board, which went from `old` to `new`. Unasked says that no entry was submitted, Submits
+-- that one call reported this status of an entry
+abbrev pub AnswersOpenLog
+    : Type 0 → Type 0 → (Bytes → EntryStatus → Type 0)
+    → Past → Past → Passage → Passage → Result Outcome ServeFault → Type 0
+AnswersOpenLog A Unasked Submits old new i o result =
+    ServesOpen (Unasked × (new ≡ old)) (OpenExchange (Unasked × (new ≡ old)) (OpenLogDecides A Unasked Submits old new)) i o result
+
+-- one request to a log on a shelf
+abbrev pub AnswersOpenShelf
+    : Type 0 → Type 0 → (Bytes → EntryStatus → Type 0)
+    → Bool → Held → (Resource → ShelfFault → Type 0) → Passage → Passage → Result Outcome ServeFault → Type 0
+AnswersOpenShelf A Unasked Submits is_honest held MayFail i o result =
+    ServesOpen Unasked (OpenExchange Unasked (OpenShelfDecides A Unasked Submits is_honest held MayFail)) i o result

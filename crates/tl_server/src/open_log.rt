@@ -2,11 +2,10 @@
 
 ghost use Rattle.std.specs.Prelude.{◌≡◌};
 ghost use Rattle.tl_device.specs.Device.{passage};
-ghost use Rattle.tl_server.specs.Adding.{OpenLogDecides};
 ghost use Rattle.tl_server.specs.Inner.Deciding.{Rest};
 ghost use Rattle.tl_server.specs.Inner.Opening.{Concluded, SomeStatus, StatusOnBoard};
 ghost use Rattle.tl_server.specs.Inner.Posts.{PostCourses};
-ghost use Rattle.tl_server.specs.ServeOpen.{OpenExchange, ServesOpen};
+ghost use Rattle.tl_server.specs.ServeOpen.{AnswersOpenLog, ServesOpen};
 
 use crate::adding::{EntryStatus, Outcome, Submits};
 use crate::course::{answer_looked, answer_misplaced, outcome_of};
@@ -93,11 +92,8 @@ pub fn serve_open_log<A: Allocator + Copy, B: Allocator, T: Submits, I: Read, O:
     board: &mut BoardReader<B>,
     queue: &mut T,
 ) -> Result<Outcome, ServeFault>
-    ensures { ServesOpen ((queue.new ≡ queue.old) × (board.new ≡ board.old))
-        (OpenExchange ((queue.new ≡ queue.old) × (board.new ≡ board.old))
-        (OpenLogDecides A (queue.new ≡ queue.old) (T.submits queue.old queue.new)
-        board.old board.new))
-        (passage I.remaining reader.old reader.new)
+    ensures { AnswersOpenLog A (queue.new ≡ queue.old) (T.submits queue.old queue.new)
+        board.old board.new (passage I.remaining reader.old reader.new)
         (passage O.contents writer.old writer.new) result }
 {
     let mut buf = [0u8; MOST_HEAD];

@@ -2,11 +2,10 @@
 
 ghost use Rattle.std.specs.Prelude.{◌≡◌};
 ghost use Rattle.tl_device.specs.Device.{passage};
-ghost use Rattle.tl_server.specs.Adding.{OpenShelfDecides};
 ghost use Rattle.tl_server.specs.Inner.Deciding.{Rest};
 ghost use Rattle.tl_server.specs.Inner.Opening.{Concluded, SomeStatus, StatusOnShelf};
 ghost use Rattle.tl_server.specs.Inner.Posts.{PostCourses};
-ghost use Rattle.tl_server.specs.ServeOpen.{OpenExchange, ServesOpen};
+ghost use Rattle.tl_server.specs.ServeOpen.{AnswersOpenShelf, ServesOpen};
 
 use crate::adding::{EntryStatus, Outcome, Submits};
 use crate::course::{answer_looked, answer_misplaced, outcome_of};
@@ -89,9 +88,8 @@ pub fn serve_open_shelf<A: Allocator + Copy, S: Shelf, T: Submits, I: Read, O: W
     shelf: &S,
     queue: &mut T,
 ) -> Result<Outcome, ServeFault>
-    ensures { ServesOpen (queue.new ≡ queue.old)
-        (OpenExchange (queue.new ≡ queue.old) (OpenShelfDecides A (queue.new ≡ queue.old)
-        (T.submits queue.old queue.new) S.is_honest (S.kept shelf.now).held (S.may_fail shelf.now)))
+    ensures { AnswersOpenShelf A (queue.new ≡ queue.old) (T.submits queue.old queue.new)
+        S.is_honest (S.kept shelf.now).held (S.may_fail shelf.now)
         (passage I.remaining reader.old reader.new)
         (passage O.contents writer.old writer.new) result }
 {
