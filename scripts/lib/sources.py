@@ -14,8 +14,8 @@ IMPORT = re.compile(r'\bghost use [^;]*;')
 BLOCK = re.compile(r'^(?:pub(?:\(crate\))? )?(impl|trait)\b', re.M)
 FUNCTION = re.compile(r'^(?:    )?(?:pub(?:\([^)]*\))? )?(?:const )?fn (\w+)', re.M)
 
-# A function: its crate, its file under crates/, the type and the trait whose method it is, or None, its name, whether it
-# is called on a value, its body, empty if it is only declared, and its line.
+# A function: its crate, its file under crates/, the type and the trait whose method it is, or None, its name, whether
+# it is called on a value, its body, empty if it is only declared, and its line.
 Function = collections.namedtuple('Function', 'crate file type trait name has_self body line')
 
 
