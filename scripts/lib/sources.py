@@ -37,7 +37,7 @@ def end_of(text, begin):
 
 
 def body_after(text, begin):
-    """Where the body begins behind a signature, or the declaration ends: a result's type may have a `;` in brackets."""
+    """Where the body begins behind a signature, or its declaration ends. A result's type may have a `;` in brackets."""
     depth = 0
     for place in range(begin, len(text)):
         depth += (text[place] in '([') - (text[place] in ')]')

@@ -4,7 +4,7 @@ import re
 
 from lib.crates import TOP, listed
 
-# A step: how deep it stands, the function's name, and the one that calls it if that isn't the step that it stands under.
+# A step: how deep it stands, the function's name, and the one that calls it, if it isn't the step that it stands under.
 Step = collections.namedtuple('Step', 'depth name caller')
 
 
@@ -81,8 +81,8 @@ class Checker:
         return function.crate == (known if known in self.below else caller.crate)
 
     def is_method(self, caller, function, before):
-        """Whether a call of a method may be of this one. Through a trait of ours its declaration is met first, unless the
-        caller's file names the type."""
+        """Whether a call of a method may be of this one. Through a trait of ours its declaration is met first, unless
+        the caller's file names the type."""
         if not before or function.type is not None and function.crate not in self.below[caller.crate]:
             return False
         if function.trait in self.traits and function.type is not None and not self.names(caller, function.type):
@@ -94,7 +94,7 @@ class Checker:
         return re.search(rf'\b{name}\b', self.sources.code[caller.file])
 
     def calls(self, caller, function):
-        """Whether the body of the first calls the second, or the first is the declaration that the second implements."""
+        """Whether the first calls the second in its body, or is the declaration that the second implements."""
         if is_declared_by(caller, function):
             return True
         is_this = self.is_method if function.type or function.trait else self.is_free
