@@ -1,8 +1,8 @@
 """Signs requests to an object store anew, for another host than the one that they name (AWS Signature Version 4).
 
-`tlog` signs the address that it is run with, the tunnel's. A store wants its own name signed. So a request's signature is
-first checked, and one that isn't by the credentials of this run goes on as it is: whoever else asks at the tunnel's port has
-nothing signed for him.
+`tlog` signs the address that it is run with, the tunnel's. A store wants its own name signed. So a request's
+signature is first checked, and one that isn't by the credentials of this run goes on as it is: whoever else asks at
+the tunnel's port has nothing signed for him.
 """
 import hashlib
 import hmac
@@ -14,8 +14,8 @@ FORM = re.compile(r'AWS4-HMAC-SHA256 Credential=([^/,]+)/([0-9]{8}/[^/,]+/s3/aws
 
 
 def secret_of(path):
-    """The name and the secret of an access key: the two lines of a file, or what the environment has if no file is given.
-    They are empty if there are none, which `tlog` reports."""
+    """The name and the secret of an access key: the two lines of a file, or what the environment has if no file is
+    given. They are empty if there are none, which `tlog` reports."""
     if path is None:
         return os.environ.get('AWS_ACCESS_KEY_ID', ''), os.environ.get('AWS_SECRET_ACCESS_KEY', '')
     try:

@@ -11,8 +11,8 @@ import time
 
 # The most bytes of a body, which `tlog` takes of no store either, and those that are handed on at once.
 MOST, PIECE = 1 << 33, 1 << 16
-# The seconds for which a connection to the server is kept unused, and those after which none is used for a request that
-# isn't to be done twice; those for which `tlog` may leave one unused; and how many it may have at once.
+# The seconds for which a connection to the server is kept unused, and those after which none is used for a request
+# that isn't to be done twice; those for which `tlog` may leave one unused; and how many it may have at once.
 KEPT, FRESH, IDLE, CLIENTS = 20, 5, 600, 1024
 # The fields of an answer that are handed on: `tlog` reads no others, and has 8 KiB for them.
 ANSWERED = 'Content-Type', 'Content-Encoding', 'ETag'
@@ -51,8 +51,8 @@ def reason(fault):
 
 
 class Upstream:
-    """A server that is reached over TLS: its address, as `name` has it, and connections to it that are kept. Requests are
-    signed anew if it has a signer."""
+    """A server that is reached over TLS: its address, as `name` has it, and connections to it that are kept. Requests
+    are signed anew if it has a signer."""
 
     def __init__(self, host, port, name, context, agent, patience):
         self.host, self.port, self.name, self.context = host, port, name, context
@@ -63,7 +63,8 @@ class Upstream:
 
     def connect(self, seconds=None):
         """A new connection, within so many seconds."""
-        link = http.client.HTTPSConnection(self.host, self.port, timeout=seconds or self.patience, context=self.context)
+        link = http.client.HTTPSConnection(self.host, self.port, timeout=seconds or self.patience,
+                                           context=self.context)
         link.connect()
         link.sock.settimeout(self.patience)
         return link
@@ -100,7 +101,8 @@ class Tunnel(http.server.ThreadingHTTPServer):
 
     def __init__(self, upstream):
         super().__init__(('127.0.0.1', 0), Relay)
-        self.upstream, self.url, self.room = upstream, f'http://127.0.0.1:{self.server_port}', threading.Semaphore(CLIENTS)
+        self.upstream, self.room = upstream, threading.Semaphore(CLIENTS)
+        self.url = f'http://127.0.0.1:{self.server_port}'
 
     def process_request(self, request, client_address):
         if self.room.acquire(blocking=False):
@@ -166,8 +168,8 @@ class Relay(http.server.BaseHTTPRequestHandler):
             length -= len(piece)
 
     def exchange(self, length):
-        """A connection to the server, and the head of the answer that came over it. A kept connection may end just as it
-        is used: then a request that only reads is sent again, over a new one."""
+        """A connection to the server, and the head of the answer that came over it. A kept connection may end just as
+        it is used: then a request that only reads is sent again, over a new one."""
         only_reads, upstream = self.command == 'GET' and not length, self.server.upstream
         kept = upstream.take(KEPT if only_reads else FRESH)
         if kept:
@@ -212,7 +214,7 @@ class Relay(http.server.BaseHTTPRequestHandler):
         self.end_headers()
 
     def hand_back(self, answer):
-        """Hands on an answer, and returns whether it came whole; if it didn't, the connection is closed before its end."""
+        """Hands on an answer, and returns whether it came whole: if not, the connection is closed before its end."""
         has_body, size = answer.status not in WITHOUT_BODY, answer.length
         self.send_response_only(answer.status)
         for name in ANSWERED:

@@ -13,7 +13,8 @@ def bash_values(options):
         names = '|'.join(f'--{option.name}' for option in options if option.value in values)
         if names:
             lines.append(f'        {names}) found=$({command}) ;;')
-    other = '|'.join(f'--{option.name}' for option in options if option.value and option.value not in FILES | FOLDERS | KEYS)
+    known = FILES | FOLDERS | KEYS
+    other = '|'.join(f'--{option.name}' for option in options if option.value and option.value not in known)
     return lines + ([f'        {other}) found= ;;'] if other else [])
 
 

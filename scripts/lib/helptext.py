@@ -1,4 +1,5 @@
-"""What the program says of itself: its commands, their options and the paragraphs of their help, as `tlog help` prints them."""
+"""What the program says of itself: its commands, their options and the paragraphs of their help, as `tlog help`
+prints them."""
 import re
 import subprocess
 
@@ -13,7 +14,8 @@ class Option:
 
 class Command:
     """A command's help: its name, its summary, its usage, groups of options by heading, paragraphs, and an example."""
-    OPTION = re.compile(r' +(?:-(?P<letter>\w), )? *--(?P<name>[a-z-]+)(?: <(?P<value>[A-Z=]+)>)?(?: {2,}(?P<help>.*))?')
+    OPTION = re.compile(
+        r' +(?:-(?P<letter>\w), )? *--(?P<name>[a-z-]+)(?: <(?P<value>[A-Z=]+)>)?(?: {2,}(?P<help>.*))?')
 
     def __init__(self, name, text):
         self.name, self.groups, self.paragraphs, self.example = name, {}, [], None
@@ -49,7 +51,8 @@ def example_of(part):
 
 def printed(program, *words):
     """What a run of the program prints, which has to succeed."""
-    return subprocess.run([program, *words], stdin=subprocess.DEVNULL, stdout=subprocess.PIPE, check=True).stdout.decode()
+    return subprocess.run([program, *words], stdin=subprocess.DEVNULL, stdout=subprocess.PIPE,
+                          check=True).stdout.decode()
 
 
 def commands_of(program):

@@ -7,7 +7,8 @@ HEADED = {'Input': 'INPUT', 'Output': 'OUTPUT', 'Exit status': 'EXIT STATUS'}
 
 def escaped(text):
     """A text as roff prints it: nothing in it is a request or an escape."""
-    text = text.replace('\\', '\\e').replace('-', '\\-').replace("'", '\\(aq').replace('^', '\\(ha').replace('~', '\\(ti')
+    for mark, name in (('\\', '\\e'), ('-', '\\-'), ("'", '\\(aq'), ('^', '\\(ha'), ('~', '\\(ti')):
+        text = text.replace(mark, name)
     return '\n'.join(f'\\&{line}' if line.startswith('.') else line for line in text.split('\n'))
 
 
@@ -68,7 +69,8 @@ def page(command, version, epoch, others):
 def pages(whole, commands, version, epoch):
     """All pages, by the name of their file."""
     names = ['tlog', *(f'tlog-{command.name}' for command in commands)]
-    listed = '.SH COMMANDS\n' + ''.join(f'.TP\n.BR tlog\\-{command.name} (1)\n{escaped(command.summary)}\n' for command in commands)
+    listed = '.SH COMMANDS\n' + ''.join(f'.TP\n.BR tlog\\-{command.name} (1)\n{escaped(command.summary)}\n'
+                                        for command in commands)
     made = {f'tlog-{command.name}.1': page(command, version, epoch, ['tlog']) for command in commands}
     front = page(whole, version, epoch, names)
     made['tlog.1'] = front.replace('.SH OPTIONS\n', f'{listed}.SH OPTIONS\n')

@@ -1,5 +1,5 @@
-"""Archives and packages of files, whose bytes depend on nothing but the files and one moment: a tar, a Debian package, and an
-image of the Open Container Initiative.
+"""Archives and packages of files, whose bytes depend on nothing but the files and one moment: a tar, a Debian
+package, and an image of the Open Container Initiative.
 
 Files are a dictionary from a path to an Entry.
 """
@@ -46,7 +46,8 @@ def tar(files, epoch):
         for path in folders_of(files):
             archive.addfile(info_of(path, tarfile.DIRTYPE, 0o755, epoch))
         for path, entry in sorted(files.items()):
-            info = info_of(path, tarfile.SYMTYPE if entry.link else tarfile.REGTYPE, 0o777 if entry.link else entry.mode, epoch)
+            info = info_of(path, tarfile.SYMTYPE if entry.link else tarfile.REGTYPE,
+                           0o777 if entry.link else entry.mode, epoch)
             info.linkname, info.size = entry.link or '', len(entry.content)
             archive.addfile(info, io.BytesIO(entry.content))
     return raw.getvalue()
@@ -76,9 +77,10 @@ def unpacked(files, folder, epoch):
 
 
 def deb(files, control, scripts, epoch, out):
-    """Writes a Debian package of these files: `control` is its description, without the size that it installs, and `scripts`
-    are what dpkg runs, by name."""
-    sums = ''.join(f'{hashlib.md5(entry.content).hexdigest()}  {path}\n' for path, entry in sorted(files.items()) if not entry.link)
+    """Writes a Debian package of these files: `control` is its description, without the size that it installs, and
+    `scripts` are what dpkg runs, by name."""
+    sums = ''.join(f'{hashlib.md5(entry.content).hexdigest()}  {path}\n'
+                   for path, entry in sorted(files.items()) if not entry.link)
     size = sum(-(-len(entry.content) // 1024) for entry in files.values())
     described = control.replace('Description:', f'Installed-Size: {size}\nDescription:')
     given = {'control': Entry(described.encode()), 'md5sums': Entry(sums.encode()),
@@ -86,8 +88,8 @@ def deb(files, control, scripts, epoch, out):
     with tempfile.TemporaryDirectory() as folder:
         unpacked({**files, **{f'DEBIAN/{name}': entry for name, entry in given.items()}}, folder, epoch)
         # (how many threads compress would show in the bytes)
-        subprocess.run(['dpkg-deb', '--root-owner-group', '-Zxz', '--threads-max=1', '--build', folder, out], check=True,
-                       stdout=subprocess.DEVNULL, env={**os.environ, 'SOURCE_DATE_EPOCH': str(epoch)})
+        subprocess.run(['dpkg-deb', '--root-owner-group', '-Zxz', '--threads-max=1', '--build', folder, out],
+                       check=True, stdout=subprocess.DEVNULL, env={**os.environ, 'SOURCE_DATE_EPOCH': str(epoch)})
 
 
 def compact(value):
@@ -95,7 +97,7 @@ def compact(value):
 
 
 def image(files, config, name, epoch):
-    """The bytes of an archive with an image layout (OCI image-spec 1.0): one layer of these files, and how it is run."""
+    """The bytes of an archive with an image layout (OCI image-spec 1.0): a layer of these files, and how it is run."""
     blobs = {'oci-layout': Entry(compact({'imageLayoutVersion': '1.0.0'}))}
 
     def blob(content, kind, **more):
@@ -106,7 +108,8 @@ def image(files, config, name, epoch):
     raw = tar(files, epoch)
     layers = {'type': 'layers', 'diff_ids': [f'sha256:{hashlib.sha256(raw).hexdigest()}']}
     described = blob(compact({**config, 'architecture': 'amd64', 'os': 'linux', 'rootfs': layers}), CONFIG)
-    manifest = compact({'schemaVersion': 2, 'mediaType': MANIFEST, 'config': described, 'layers': [blob(zipped(raw), LAYER)]})
+    manifest = compact({'schemaVersion': 2, 'mediaType': MANIFEST, 'config': described,
+                        'layers': [blob(zipped(raw), LAYER)]})
     named = blob(manifest, MANIFEST, annotations={'org.opencontainers.image.ref.name': name})
     blobs['index.json'] = Entry(compact({'schemaVersion': 2, 'manifests': [named]}))
     return tar(blobs, epoch)

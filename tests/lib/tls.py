@@ -1,4 +1,5 @@
-"""Servers over TLS: certificates, made by the command `openssl`, and a relay that speaks TLS before a server that doesn't."""
+"""Servers over TLS: certificates, made by the command `openssl`, and a relay that speaks TLS before a server that
+doesn't."""
 import contextlib
 import socket
 import ssl
@@ -20,8 +21,8 @@ def certificate(name, names=OURS, days=2):
 
 
 class OverTls:
-    """A port of this machine, by TLS, whose connections go to another port as bytes: how many there were, and how many are
-    open. The server names that were asked for are kept."""
+    """A port of this machine, by TLS, whose connections go to another port as bytes: how many there were, and how
+    many are open. The server names that were asked for are kept."""
 
     def __init__(self, behind, certificate_name, host='127.0.0.1'):
         self.behind, self.count, self.names, self.links = behind, 0, [], set()
