@@ -50,6 +50,19 @@ def reason(fault):
     return (fault.strerror or 'failed').lower()
 
 
+class Kept:
+    """A connection that is kept since a moment."""
+
+    def __init__(self, since, link, is_used):
+        self.since, self.link, self.is_used = since, link, is_used
+
+    def is_open(self):
+        """Whether the server hasn't closed it, as far as is known. One that wasn't used may have something of TLS."""
+        waiting = select.poll()
+        waiting.register(self.link.sock, select.POLLIN)
+        return not self.is_used or not waiting.poll(0)
+
+
 class Upstream:
     """A server that is reached over TLS: its address, as `name` has it, and connections to it that are kept. Requests
     are signed anew if it has a signer."""
@@ -65,14 +78,21 @@ class Upstream:
         """A new connection, within so many seconds."""
         link = http.client.HTTPSConnection(self.host, self.port, timeout=seconds or self.patience,
                                            context=self.context)
-        link.connect()
+        try:
+            link.connect()
+        except UnicodeError:
+            raise socket.gaierror from None
         link.sock.settimeout(self.patience)
         return link
 
-    def keep(self, link):
-        """Keeps a connection for another request."""
+    def keep(self, link, is_used=True):
+        """Keeps a connection for another request, and closes those that were kept too long."""
+        now = time.monotonic()
         with self.turn:
-            self.kept.append((time.monotonic(), link))
+            old = [kept for kept in self.kept if now - kept.since >= KEPT]
+            self.kept = [kept for kept in self.kept if now - kept.since < KEPT] + [Kept(now, link, is_used)]
+        for kept in old:
+            kept.link.close()
 
     def take(self, seconds):
         """A connection that was kept for fewer seconds and isn't closed; None if there is none."""
@@ -80,12 +100,10 @@ class Upstream:
             with self.turn:
                 if not self.kept:
                     return None
-                since, link = self.kept.pop()
-            waiting = select.poll()
-            waiting.register(link.sock, select.POLLIN)
-            if time.monotonic() - since < seconds and not waiting.poll(0):
-                return link
-            link.close()
+                kept = self.kept.pop()
+            if time.monotonic() - kept.since < seconds and kept.is_open():
+                return kept.link
+            kept.link.close()
 
     def report(self, why):
         """Reports why the server isn't reached, unless that was the last thing that was reported; None that it is."""

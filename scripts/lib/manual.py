@@ -66,6 +66,17 @@ def page(command, version, epoch, others):
         example(command), f'.SH SEE ALSO\n{seen}\n'])
 
 
+def page_of_script(name, text, version, epoch):
+    """The page of a script, which says at its head what it does; lines that are indented are shown as they are."""
+    summary, *parts = text.strip('\n').split('\n\n')
+    said = []
+    for part in parts:
+        is_shown = all(line.startswith('    ') for line in part.split('\n'))
+        said.append(f'.EX\n{escaped(part)}\n.EE\n' if is_shown else f'.PP\n{escaped(part)}\n')
+    front = heading(name, version, epoch, ' '.join(summary.split()).rstrip(':.'))
+    return f'{front}.SH DESCRIPTION\n{"".join(said)}.SH SEE ALSO\n.BR tlog (1)\n'
+
+
 def pages(whole, commands, version, epoch):
     """All pages, by the name of their file."""
     names = ['tlog', *(f'tlog-{command.name}' for command in commands)]
