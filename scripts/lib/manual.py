@@ -1,4 +1,5 @@
 """Pages of the manual (man(7)), made of the program's help."""
+import textwrap
 import time
 
 # The paragraphs that have a heading of their own, by how they begin.
@@ -72,7 +73,7 @@ def page_of_script(name, text, version, epoch):
     said = []
     for part in parts:
         is_shown = all(line.startswith('    ') for line in part.split('\n'))
-        said.append(f'.EX\n{escaped(part)}\n.EE\n' if is_shown else f'.PP\n{escaped(part)}\n')
+        said.append(f'.EX\n{escaped(textwrap.dedent(part))}\n.EE\n' if is_shown else f'.PP\n{escaped(part)}\n')
     front = heading(name, version, epoch, ' '.join(summary.split()).rstrip(':.'))
     return f'{front}.SH DESCRIPTION\n{"".join(said)}.SH SEE ALSO\n.BR tlog (1)\n'
 
