@@ -56,6 +56,8 @@ class Fetch:
             reported = self.process.stderr.read().decode(errors='replace')
             sys.stderr.write(reported.replace(self.hidden, self.shown) if self.hidden else reported)
             self.status = self.process.wait()
+            if self.status < 0:
+                raise Stop(3, f'{program()}: killed by signal {-self.status}')
         return self.status
 
     def pieces(self):
@@ -121,6 +123,13 @@ def put(path, content):
         file.flush()
         os.fsync(file.fileno())
     os.replace(f'{path}.new', path)
+
+
+def keep_evidence(path, evidence):
+    """Keeps evidence that the log forked, unless there is some already."""
+    if read(path) is None:
+        put(path, evidence)
+        sync_folder(os.path.dirname(path))
 
 
 @contextlib.contextmanager
