@@ -13,13 +13,10 @@ async function policyOf(given) {
   return policies.get(name);
 }
 
-// A log in which one resource is another, or isn't there.
-async function logOf({ log, path, content, policy }) {
-  const files = logs.get(log);
-  const get = async (wanted) => {
-    const found = wanted === path ? content : files[wanted];
-    return found === undefined || found === null ? null : bytes(found);
-  };
+// A log in which some resources are others, or aren't there.
+async function logOf({ log, changes, policy }) {
+  const files = { ...logs.get(log), ...changes };
+  const get = async (wanted) => (files[wanted] === undefined || files[wanted] === null ? null : bytes(files[wanted]));
   return new verify.Log(get, await verify.openCheckpoint(await get("checkpoint"), await policyOf(policy)));
 }
 

@@ -25,8 +25,9 @@ class Stop(Exception):
 
 def program():
     """The path of `tlog`."""
-    beside = os.path.join(os.path.dirname(os.path.realpath(__file__)), '..', '..', 'tlog')
-    return os.environ.get('TLOG') or (os.path.normpath(beside) if os.access(beside, os.X_OK) else 'tlog')
+    beside = os.path.normpath(f'{os.path.dirname(os.path.realpath(__file__))}/../../tlog')
+    is_here = os.path.isfile(beside) and os.access(beside, os.X_OK)
+    return os.environ.get('TLOG') or (beside if is_here else 'tlog')
 
 
 class Fetch:
