@@ -156,8 +156,9 @@ export async function readPolicy({ key, witnesses = [], need }) {
   if (log.isWitness) refuse("the log's key is of a witness");
   if (others.some((witness) => !witness.isWitness)) refuse("the key of a witness is of a log");
   if (new Set([log, ...others].map((one) => one.point)).size <= others.length) refuse("a key stands twice");
-  const names = new Set(others.map((witness) => witness.name));
-  return { log, witnesses: others, names: [...names], need: need ?? names.size };
+  const names = new Set(others.map((witness) => witness.name)), least = need ?? names.size;
+  if (!Number.isInteger(least) || least < 0) refuse("the number of witnesses that are needed is none");
+  return { log, witnesses: others, names: [...names], need: least };
 }
 
 // Notes and checkpoints
