@@ -1,0 +1,7 @@
+pub mod TextLemmas
+pub mod HashLemmas
+pub mod OneText
+pub mod CutLemmas
+pub mod Listed
+pub mod ParseLemmas
+pub mod WriteLemmas
