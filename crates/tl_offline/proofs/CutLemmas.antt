@@ -1,21 +1,21 @@
 -- Parts cut from a text.
-use Rattle.std.proofs.Common.{◌≡◌, ◌≢◌, ℕ, ◌+◌, ◌<◌, ◌≤◌, List, [], ◌∷◌, ◌++◌, length, get_or, refl, sym, ap, subst, ◌∙◌, append_assoc, arith, All, Option, Some, None, Bor, Err, take}
-use Rattle.std.specs.Prelude.{codes, MatchOption, IsUtf8, slice_set}
+use Rattle.std.proofs.Common.{◌≡◌, ◌≢◌, ℕ, ◌+◌, ◌<◌, ◌≤◌, List, [], ◌∷◌, ◌++◌, length, sym, ap, subst, ◌∙◌, append_assoc, arith, Some, None, Bor, Err, take}
+use Rattle.std.specs.Prelude.{codes, IsUtf8, slice_set}
 use Rattle.std.proofs.lemmas.List.{append_cancel_left, length-append, length-set, length-take-le, take_more_set}
 use Rattle.std.proofs.lemmas.List.Elements.{All-from_get_or}
 use Rattle.std.proofs.lemmas.Str.Pattern.{IsSplitOnceResult, split_parts}
 use Rattle.tl_hash.specs.Bytes.{IsHash}
-use Rattle.tl_text.specs.Base64.{IsBase64, IsSpelled}
-use Rattle.tl_text.specs.Pieces.{IsNoLine, IsNoSize, IsNoHash}
-use Rattle.tl_text.specs.Text.{line, number_text, base64_text, HasNoControl, IsSize}
+use Rattle.tl_text.specs.Base64.{IsBase64}
+use Rattle.tl_text.specs.Pieces.{IsNoLine, IsNoSize}
+use Rattle.tl_text.specs.Text.{line, number_text, base64_text, HasNoControl}
 use Rattle.tl_text.proofs.Lines.{one_line}
 use Rattle.tl_text.proofs.PlainText.{base64_plain}
 use Rattle.tl_offline.specs.declared.proof.ProofFault.{ProofFault}
 use Rattle.tl_offline.specs.declared.proof.ProofFault.TheVariants.{NoHeader, BadExtra, NoIndex, NoHash, TooMany, NoCheckpoint, OutOfMemory}
-use Rattle.tl_offline.specs.ProofText.{extra_line, hash_lines, index_line}
+use Rattle.tl_offline.specs.ProofText.{extra_line}
 use Rattle.tl_offline.specs.ParseProof.{HasNoData, HasNoIndexLine, HasNoNewline}
-use Rattle.tl_offline.specs.Inner.Cutting.{CutsHash, CutsHashes, HasRead, IsNoHashLine}
-use Rattle.tl_offline.proofs.TextLemmas.{extra_words, index_plain, index_words}
+use Rattle.tl_offline.specs.Inner.Cutting.{CutsHash, CutsHashes, HasRead}
+use Rattle.tl_offline.proofs.TextLemmas.{index_plain, index_words}
 use Rattle.tl_offline.proofs.HashLemmas.{reads_more, reads_none}
 
 -- ---- the line of an index

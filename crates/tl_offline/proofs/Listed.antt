@@ -1,5 +1,5 @@
 -- An entry that is accepted is in the list.
-use Rattle.std.proofs.Common.{◌≡◌, ◌<◌, ℕ, List, [], length, get_or, sym, ap, ◌∙◌, arith, All, inl, inr, Some, ◌⊎◌}
+use Rattle.std.proofs.Common.{[], sym, ap, ◌∙◌, inl, inr, Some}
 use Rattle.std.proofs.lemmas.Option.{slice_get-get_or}
 use Rattle.tl_proof.specs.Acceptance.{AcceptsInclusion}
 use Rattle.tl_proof.proofs.Soundness.{inclusion_shows_entry}

@@ -1,6 +1,6 @@
 -- A text is one proof, and no proof's text is refused.
-use Rattle.std.proofs.Common.{◌≡◌, ◌≢◌, ℕ, ◌+◌, ◌<◌, ◌≤◌, List, [], ◌∷◌, ◌++◌, length, refl, sym, ap, subst, ◌∙◌, append_assoc, arith, All, Option, Some, None}
-use Rattle.std.specs.Prelude.{codes, IfNone, IfSome}
+use Rattle.std.proofs.Common.{◌≡◌, ◌≢◌, ℕ, ◌+◌, ◌≤◌, List, [], ◌∷◌, ◌++◌, length, sym, ap, ◌∙◌, arith, All, Option, Some, None}
+use Rattle.std.specs.Prelude.{IfSome}
 use Rattle.std.proofs.lemmas.List.{append_cancel_left, length-append}
 use Rattle.std.proofs.lemmas.List.Elements.{All-head}
 use Rattle.base64.specs.GeneralPurpose.{IsBytes}
@@ -11,8 +11,8 @@ use Rattle.tl_text.proofs.PlainText.{base64_plain}
 use Rattle.tl_offline.specs.declared.proof.ProofFault.{ProofFault}
 use Rattle.tl_offline.specs.declared.proof.ProofFault.TheVariants.{NoHeader, BadExtra, NoIndex, NoHash, TooMany, NoCheckpoint, OutOfMemory}
 use Rattle.tl_offline.specs.ProofText.{TlogProof, IsProof, proof_text, version_line, extra_line, index_line, hash_lines}
-use Rattle.tl_offline.specs.ParseProof.{HasNoData, HasNoExtra, HasNoIndexLine, HasNoNewline, HasBadIndex, HasHashes, HasBadHash, HasNoEnd, IsNoProofFor}
-use Rattle.tl_offline.proofs.TextLemmas.{anyhow, cut_line, five, four, three, index_is_no_extra, no_line, no_newline, one_extra, one_front}
+use Rattle.tl_offline.specs.ParseProof.{HasNoData, HasNoNewline, HasBadIndex, HasHashes, IsNoProofFor}
+use Rattle.tl_offline.proofs.TextLemmas.{anyhow, cut_line, five, three, index_is_no_extra, no_line, no_newline, one_extra, one_front}
 use Rattle.tl_offline.proofs.HashLemmas.{GoesOn, first_hash, goes_on, one_end}
 
 -- the lines after the extra data

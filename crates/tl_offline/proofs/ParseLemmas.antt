@@ -1,6 +1,6 @@
 -- A proof, by the parts of its text.
-use Rattle.std.proofs.Common.{◌≡◌, ◌≢◌, ℕ, ◌+◌, ◌<◌, ◌≤◌, List, [], ◌∷◌, ◌++◌, length, take, refl, sym, ap, subst, ◌∙◌, append_assoc, arith, Option, Some, None, Result, Ok, Err, Bor, inl, inr}
-use Rattle.std.specs.Prelude.{codes, IfNone, IfSome, IsErrAnd, IsSome}
+use Rattle.std.proofs.Common.{◌≡◌, ℕ, ◌+◌, ◌≤◌, List, ◌∷◌, ◌++◌, length, take, refl, sym, ap, subst, ◌∙◌, append_assoc, arith, Option, Some, None, Result, Ok, Err, Bor}
+use Rattle.std.specs.Prelude.{IfNone, IfSome, IsErrAnd, IsSome}
 use Rattle.std.proofs.lemmas.List.{length-take}
 use Rattle.base64.specs.GeneralPurpose.{IsBytes}
 use Rattle.tl_text.specs.Text.{line}
@@ -11,8 +11,8 @@ use Rattle.tl_offline.specs.declared.parsing.Hashes.{Hashes}
 use Rattle.tl_offline.specs.declared.proof.OfflineProof.{OfflineProof}
 use Rattle.tl_offline.specs.declared.proof.ProofFault.{ProofFault}
 use Rattle.tl_offline.specs.declared.proof.ProofFault.TheVariants.{NoHeader, BadExtra, NoIndex, NoHash, TooMany, NoCheckpoint, OutOfMemory}
-use Rattle.tl_offline.specs.ProofText.{TlogProof, IsProof, version_line, extra_line, index_line, hash_lines}
-use Rattle.tl_offline.specs.ParseProof.{HasBadIndex, HasHashes, HasNoExtra, HasNoIndexLine, IsNoProofFor, IsProofText, ParsesProof, TakesMemory}
+use Rattle.tl_offline.specs.ProofText.{TlogProof, version_line, extra_line, index_line, hash_lines}
+use Rattle.tl_offline.specs.ParseProof.{HasBadIndex, HasHashes, HasNoExtra, HasNoIndexLine, IsProofText, ParsesProof, TakesMemory}
 use Rattle.tl_offline.specs.Inner.Cutting.{CutsHashes, HasCutExtra, HasCutFront, HasCutHashes, HasRead, Spells}
 use Rattle.tl_offline.proofs.TextLemmas.{three}
 

@@ -1,10 +1,10 @@
 -- A proof's text, written line by line.
-use Rattle.std.proofs.Common.{◌≡◌, ℕ, ◌+◌, ◌<◌, ◌≤◌, ◌^◌, List, [], ◌∷◌, ◌++◌, length, get_or, take, refl, sym, ap, subst, ◌∙◌, append_assoc, append-nil, arith, All}
+use Rattle.std.proofs.Common.{◌≡◌, ℕ, ◌+◌, ◌<◌, ◌≤◌, ◌^◌, List, [], ◌∷◌, ◌++◌, length, get_or, take, sym, ap, subst, ◌∙◌, append_assoc, append-nil, All}
 use Rattle.std.proofs.lemmas.List.{take_more}
 use Rattle.std.proofs.lemmas.List.Elements.{All-push}
 use Rattle.std.proofs.lemmas.List.Concat.{flat_map-cons, flat_map-append}
 use Rattle.tl_hash.specs.Bytes.{IsHash}
-use Rattle.tl_text.specs.Text.{line, base64_text, IsSize}
+use Rattle.tl_text.specs.Text.{line, base64_text}
 use Rattle.tl_offline.specs.ProofText.{TlogProof, IsProof, hash_lines}
 use Rattle.tl_offline.specs.Inner.Typed.{IsTyped}
 

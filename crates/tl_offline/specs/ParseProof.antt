@@ -1,5 +1,5 @@
 -- What reading a proof answers: the proof that a text is, or the first line that is wrong (C2SP tlog-proof).
-use Rattle.std.specs.Prelude.{◌≡◌, ◌≢◌, ℕ, ◌+◌, ◌<◌, ◌≤◌, List, [], ◌∷◌, ◌++◌, length, All, codes, Option, Some, None, IfNone, IfSome, IsSome, Result, Ok, Err, ◌⊎◌}
+use Rattle.std.specs.Prelude.{◌≡◌, ◌≢◌, ℕ, ◌+◌, ◌<◌, ◌≤◌, List, [], ◌++◌, length, All, codes, Option, Some, None, IfNone, IfSome, IsSome, Result, Ok, Err, ◌⊎◌}
 use Rattle.base64.specs.GeneralPurpose.{IsBytes}
 use Rattle.tl_hash.specs.Bytes.{Bytes, IsHash}
 use Rattle.tl_text.specs.Text.{line, IsSize}

@@ -17,6 +17,11 @@ pub fn no_proof_is_refused()
     ensures { (p : TlogProof) (fault : ProofFault) → IsProof p → ¬ (IsNoProofFor (proof_text p) fault) }
 {}
 
+/// A text is refused for one line and reason: no two faults are of one text.
+pub fn text_has_one_fault()
+    ensures { (text : Bytes) (f g : ProofFault) → IsNoProofFor text f → IsNoProofFor text g → f ≡ g }
+{}
+
 /// If `check_entry` accepts the leaf hash of an entry under the size and root of a list, the entry is at the proof's
 /// index in that list, or two different byte strings, one hashed for the check and one for the list, have one digest;
 /// for every digest function with digests of 32 bytes.

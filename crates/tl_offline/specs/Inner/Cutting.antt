@@ -1,18 +1,17 @@
 -- Parts cut from the text of a proof.
-use Rattle.std.specs.Prelude.{◌≡◌, ◌≢◌, ℕ, ◌+◌, ◌≤◌, List, [], ◌∷◌, ◌++◌, length, take, All, IsUtf8, codes, Option, Some, None, IfNone, Result, Ok, Err}
+use Rattle.std.specs.Prelude.{◌≡◌, ◌≢◌, ℕ, ◌+◌, ◌≤◌, List, ◌∷◌, ◌++◌, length, take, All, IsUtf8, Option, Some, None, IfNone, Result, Ok, Err}
 use denote.Ref.{Bor}
 use Rattle.tl_hash.specs.Bytes.{Bytes, IsHash}
-use Rattle.base64.specs.GeneralPurpose.{IsBytes}
 use Rattle.tl_text.specs.Text.{line, base64_text, IsSize}
 use Rattle.tl_text.specs.Pieces.{IsNoHash}
 use Rattle.tl_text.specs.Base64.{IsSpelled}
 use Rattle.tl_offline.specs.declared.proof.ProofFault.{ProofFault}
-use Rattle.tl_offline.specs.declared.proof.ProofFault.TheVariants.{NoHeader, BadExtra, NoIndex, NoHash, TooMany, NoCheckpoint, OutOfMemory}
+use Rattle.tl_offline.specs.declared.proof.ProofFault.TheVariants.{BadExtra, NoHash, TooMany, NoCheckpoint}
 use Rattle.tl_offline.specs.declared.parsing.Extra.{Extra}
 use Rattle.tl_offline.specs.declared.parsing.Front.{Front}
 use Rattle.tl_offline.specs.declared.parsing.Hashes.{Hashes}
 use Rattle.tl_offline.specs.ProofText.{extra_line, index_line, hash_lines, version_line}
-use Rattle.tl_offline.specs.ParseProof.{HasNoVersion, HasNoData, HasNoExtra, HasNoIndexLine, HasNoNewline, index_place, IsNoProofFor}
+use Rattle.tl_offline.specs.ParseProof.{HasNoData, HasNoExtra, HasNoNewline, index_place, IsNoProofFor}
 
 -- the base64 of these extra data, or neither
 abbrev pub Spells : Option (Bor Bytes) → Option Bytes → Type 0

@@ -1,6 +1,6 @@
 use Rattle.std.proofs.Common.{◌≡◌, ℕ, List, ◌++◌, true, false, refl, sym, ap, subst, ◌∙◌, Some}
 use Rattle.std.specs.Prelude.{codes}
-use Rattle.tl_text.specs.Base64.{IsBase64, IsSpelled}
+use Rattle.tl_text.specs.Base64.{IsBase64}
 use Rattle.tl_offline.proofs.CutLemmas.{extra_begins, no_base64, no_extra_line}
 use Rattle.tl_offline.proofs.parsing.cut_extra.Goals as goal
 

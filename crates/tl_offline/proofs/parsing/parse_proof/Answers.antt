@@ -1,5 +1,4 @@
 use Rattle.std.proofs.Common.{List, ℕ, take, refl, inl, inr}
-use Rattle.tl_offline.specs.ParseProof.{TakesMemory}
 use Rattle.tl_offline.proofs.ParseLemmas.{hashes_fault, made, parses_refused, proof_of_parts, spelled_some}
 use Rattle.tl_offline.proofs.parsing.parse_proof.Goals as goal
 
