@@ -3,7 +3,8 @@
 ghost use Rattle.std.specs.Prelude.{◌≡◌};
 
 use std::alloc::{AllocError, Allocator};
-use thiserror::Error;
+use std::error::Error;
+use std::fmt::{self, Display, Formatter};
 use tl_hash::Hash;
 
 /// No inclusion proof among fewer than 2^63 entries has more hashes.
@@ -24,44 +25,63 @@ pub struct OfflineProof<'t, A: Allocator> {
 }
 
 /// Why a text is no proof: the first line that is wrong, counted from 1.
-#[derive(Clone, Copy, Debug, PartialEq, Eq, Error)]
+#[derive(Clone, Copy, Debug, PartialEq, Eq)]
 pub enum ProofFault {
     /// Line 1 isn't `c2sp.org/tlog-proof@v1`.
-    #[error("line 1 isn't c2sp.org/tlog-proof@v1")]
     NoHeader,
     /// Line 2 begins with `extra `, and what follows isn't base64.
-    #[error("line 2 has extra data that aren't base64")]
     BadExtra,
     /// This line, the second or the one after the extra data, isn't `index ` and a decimal number below 2^63.
-    #[error("line {0} isn't an index")]
     NoIndex(usize),
     /// This line follows at most 63 hashes, and is neither a hash nor empty.
-    #[error("line {0} isn't a hash")]
     NoHash(usize),
     /// This line is the 64th hash.
-    #[error("line {0} is one hash too many")]
     TooMany(usize),
     /// The text ends before or within this line, which would be a hash or the empty line.
-    #[error("line {0} is missing: no checkpoint follows")]
     NoCheckpoint(usize),
     /// Memory ran out. The text is a proof with hashes or extra data.
-    #[error("out of memory")]
     OutOfMemory,
 }
 
+impl Display for ProofFault {
+    fn fmt<W: fmt::Write>(&self, f: &mut Formatter<W>) -> fmt::Result {
+        let (line, words) = match self {
+            ProofFault::NoHeader => (1, "isn't c2sp.org/tlog-proof@v1"),
+            ProofFault::BadExtra => (2, "has extra data that aren't base64"),
+            ProofFault::NoIndex(line) => (*line, "isn't an index"),
+            ProofFault::NoHash(line) => (*line, "isn't a hash"),
+            ProofFault::TooMany(line) => (*line, "is one hash too many"),
+            ProofFault::NoCheckpoint(line) => (*line, "is missing: no checkpoint follows"),
+            ProofFault::OutOfMemory => return f.write_str("out of memory"),
+        };
+        write!(f, "line {line} {words}")
+    }
+}
+
+impl Error for ProofFault {}
+
 /// Why a proof has no text, in the order in which it is found.
-#[derive(Clone, Copy, Debug, PartialEq, Eq, Error)]
+#[derive(Clone, Copy, Debug)]
 pub enum WriteFault {
     /// The index is 2^63 or above.
-    #[error("the index is 2^63 or above")]
     Index,
     /// There are more than 63 hashes.
-    #[error("more than 63 hashes")]
     TooMany,
     /// Memory ran out.
-    #[error("out of memory")]
     OutOfMemory,
 }
+
+impl Display for WriteFault {
+    fn fmt<W: fmt::Write>(&self, f: &mut Formatter<W>) -> fmt::Result {
+        f.write_str(match self {
+            WriteFault::Index => "the index is 2^63 or above",
+            WriteFault::TooMany => "more than 63 hashes",
+            WriteFault::OutOfMemory => "out of memory",
+        })
+    }
+}
+
+impl Error for WriteFault {}
 
 impl From<AllocError> for WriteFault {
     ghost use Rattle.tl_offline.specs.declared.proof.WriteFault.TheVariants.{OutOfMemory};
