@@ -1,0 +1,5 @@
+-- Private words: what contracts of private functions and proofs need.
+pub
+    mod Cutting
+pub
+    mod Typed
