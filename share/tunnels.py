@@ -72,10 +72,10 @@ class Upstream:
         self.agent, self.patience, self.signer = agent, patience, None
         authority = f'[{host}]' if ':' in host else host
         self.authority = authority if port == 443 else f'{authority}:{port}'
-        self.kept, self.told, self.turn = [], None, threading.Lock()
+        self.kept, self.reported, self.turn = [], None, threading.Lock()
 
     def connect(self, seconds=None):
-        """A new connection, within so many seconds."""
+        """A new connection, within this many seconds."""
         link = http.client.HTTPSConnection(self.host, self.port, timeout=seconds or self.patience,
                                            context=self.context)
         try:
@@ -108,7 +108,7 @@ class Upstream:
     def report(self, why):
         """Reports why the server isn't reached, unless that was the last thing that was reported; None that it is."""
         with self.turn:
-            is_new, self.told = why != self.told, why
+            is_new, self.reported = why != self.reported, why
         if why and is_new:
             report(f'tlog: {self.name}: {why}\n'.encode())
 
