@@ -1,0 +1,106 @@
+"""Signed notes and checkpoints (C2SP signed-note, tlog-checkpoint, tlog-cosignature): their texts, and strict readers of them.
+What isn't such a text is None, or the name of a fault.
+"""
+import base64
+import re
+
+from .keys import cosigned_message, is_valid
+from .tree import text
+
+# White space of Unicode, plus, and what is below a space: not in a key's name.
+NAME = '[^\x00-\x20+\x85\xa0\u1680\u2000-\u200a\u2028\u2029\u202f\u205f\u3000]+'
+CONTROL = re.compile('[\x00-\x09\x0b-\x1f]')
+DIGITS = '(0|[1-9][0-9]{0,18})'
+LARGEST = 2 ** 63 - 1
+
+
+def checkpoint(origin, size, root, *extensions):
+    """The text of a checkpoint."""
+    return '\n'.join([origin, str(size), text(root), *extensions, '']).encode()
+
+
+# Readers
+
+def decoded(data):
+    try:
+        return data.decode()
+    except UnicodeDecodeError:
+        return None
+
+
+def number(word):
+    return int(word) if re.fullmatch(DIGITS, word) and int(word) <= LARGEST else None
+
+
+def bytes_in(word):
+    """The bytes of which a word is the base64."""
+    try:
+        data = base64.b64decode(word, validate=True)
+    except ValueError:
+        return None
+    return data if text(data) == word else None
+
+
+def hash_in(word):
+    data = bytes_in(word)
+    return data if data is not None and len(data) == 32 else None
+
+
+def lines_in(whole):
+    """The lines of a text, each ended by a newline."""
+    lines = whole.split('\n')
+    return None if lines.pop() else lines
+
+
+def signature_lines(whole):
+    """Name, identifier, base64 and signature of each of 1 to 100 signature lines."""
+    lines, found = lines_in(whole), []
+    if not lines or len(lines) > 100:
+        return None
+    for line in lines:
+        parts = re.fullmatch(f'\u2014 ({NAME}) (.+)', line)
+        data = parts and bytes_in(parts[2])
+        if not data or len(data) < 5:
+            return None
+        found.append((parts[1], data[:4], parts[2], data[4:]))
+    return found
+
+
+def note_in(data):
+    """The text of a note and its signature lines."""
+    whole = decoded(data)
+    cut = -1 if whole is None or CONTROL.search(whole) else whole.rfind('\n\n')
+    lines = None if cut < 0 else signature_lines(whole[cut + 2:])
+    return lines and (whole[:cut + 1], lines)
+
+
+def checkpoint_in(whole):
+    """Origin, size and root of a checkpoint, or the first fault."""
+    lines = lines_in(whole)
+    if not lines or len(lines) < 3 or CONTROL.search(whole) or '' in lines[3:]:
+        return 'Lines'
+    size, top = number(lines[1]), hash_in(lines[2])
+    fault = 'Origin' if not lines[0] else 'Size' if size is None else 'Root' if top is None else None
+    return fault or (lines[0], size, top)
+
+
+# Signatures
+
+def marks_by(key, lines):
+    """What a key signed with, of each of these lines that has its name and its identifier."""
+    return [mark for name, id, _, mark in lines if (name, id) == (key.name, key.id)]
+
+
+def is_signed(note, key):
+    """Whether a note has a line of this key, and each line of it is valid."""
+    marks = marks_by(key, note[1])
+    return bool(marks) and all(is_valid(key.public, note[0].encode(), mark) for mark in marks)
+
+
+def cosigned_at(key, lines, content):
+    """The time of the first of these lines that is a key's cosignature of a text, and None if there is none."""
+    for mark in marks_by(key, lines):
+        seconds = int.from_bytes(mark[:8], 'big')
+        if len(mark) == 72 and is_valid(key.public, cosigned_message(content, seconds), mark[8:]):
+            return seconds
+    return None
