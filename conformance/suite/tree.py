@@ -85,6 +85,12 @@ class Endless:
             self.known[place] = node(self.root(start, middle), self.root(middle, end))
         return self.known[place]
 
+    def fork(self, size, rest):
+        """A list with the same first entries, and other ones behind them."""
+        found = Endless([], rest)
+        found.leaves = [self.root(place, place + 1) for place in range(size)]
+        return found
+
     def head(self, size):
         """The root at a size."""
         return self.root(0, size) if size else sha(b'')
