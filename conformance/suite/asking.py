@@ -81,7 +81,7 @@ def with_mark(log, mark, size, name=None, id=None):
     return log.text(size) + b'\n' + line_of(name or log.key.name, id or log.key.id, mark)
 
 
-# Requests that aren't well-formed. All else about them is right, so whoever passes over what is wrong cosigns.
+# Requests that aren't as they are to be. All else about them is right, so whoever passes over what is wrong cosigns.
 
 def framings(log):
     """Requests whose lines aren't as they are to be, by what is wrong: for the size that the witness has, as far as that can
@@ -100,16 +100,6 @@ def framings(log):
             **{f'old-{name}': line % old + b'\n' + note for name, line in lines.items()},
             **{f'hash-{name}': front + line + b'\n' + rest for name, line in hashes.items()},
             **{f'note-{name}': front + b'\n' + other for name, other in notes.items()}}
-
-
-def texts(log):
-    """Texts that the log's key signs and that are no checkpoints, of the size that the witness has."""
-    name, size, top = log.key.name, log.size, text(log.list.head(log.size))
-    short = text(log.list.head(log.size)[:31])
-    return {'size-zeros': f'{name}\n0{size}\n{top}\n', 'size-sign': f'{name}\n+{size}\n{top}\n', 'size-space': f'{name}\n{size} \n{top}\n',
-            'root-of-31': f'{name}\n{size}\n{short}\n', 'root-unpadded': f'{name}\n{size}\n{top[:-1]}\n',
-            'root-missing': f'{name}\n{size}\n', 'extension-empty': f'{name}\n{size}\n{top}\n\nmore\n',
-            'size-hexadecimal': f'{name}\n0x{size:x}\n{top}\n', 'size-negative': f'{name}\n-{size}\n{top}\n'}
 
 
 def wrong_proofs(log, size):

@@ -19,6 +19,18 @@ def checkpoint(origin, size, root, *extensions):
     return '\n'.join([origin, str(size), text(root), *extensions, '']).encode()
 
 
+def malformed(origin, size, root):
+    """Texts that are nearly a checkpoint's, by what is wrong."""
+    top = text(root)
+    lines = {'size-zeros': (origin, f'0{size}', top), 'size-sign': (origin, f'+{size}', top), 'size-space': (origin, f'{size} ', top),
+             'size-hexadecimal': (origin, f'0x{size:x}', top), 'size-negative': (origin, f'-{size}', top),
+             'size-missing': (origin, top), 'root-of-31': (origin, f'{size}', text(root[:31])),
+             'root-of-33': (origin, f'{size}', text(root + b'x')), 'root-unpadded': (origin, f'{size}', top[:-1]),
+             'root-hexadecimal': (origin, f'{size}', root.hex()), 'root-missing': (origin, f'{size}'),
+             'line-empty': (origin, f'{size}', top, '', 'more'), 'line-first': ('', origin, f'{size}', top)}
+    return {name: '\n'.join([*parts, '']).encode() for name, parts in lines.items()}
+
+
 # Readers
 
 def decoded(data):
@@ -44,6 +56,11 @@ def bytes_in(word):
 def hash_in(word):
     data = bytes_in(word)
     return data if data is not None and len(data) == 32 else None
+
+
+def hashes_in(words):
+    found = [hash_in(word) for word in words]
+    return None if None in found else found
 
 
 def lines_in(whole):
@@ -82,6 +99,15 @@ def checkpoint_in(whole):
     size, top = number(lines[1]), hash_in(lines[2])
     fault = 'Origin' if not lines[0] else 'Size' if size is None else 'Root' if top is None else None
     return fault or (lines[0], size, top)
+
+
+def request_in(data):
+    """The old size, the proof and the note of a request to a witness."""
+    whole = decoded(data)
+    front, cut, note = ('\n' + (whole or '')).partition('\n\n')
+    words = front[1:].split('\n')
+    old, hashes = number(words[0][4:]) if words[0].startswith('old ') else None, hashes_in(words[1:])
+    return None if not cut or None in (old, hashes) or len(hashes) > 63 else (old, hashes, note.encode())
 
 
 # Signatures

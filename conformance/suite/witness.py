@@ -7,9 +7,9 @@ import threading
 import time
 
 from . import web
-from .asking import LARGE_SIZES, SIZES, Log, Witness, framed, framings, is_now, texts, told, with_mark, wrong_proofs
+from .asking import LARGE_SIZES, SIZES, Log, Witness, framed, framings, is_now, told, with_mark, wrong_proofs
 from .keys import COSIGNER, NOTE, ORDER, SeedKey, key_id, line_of
-from .notes import decoded, signature_lines
+from .notes import decoded, malformed, signature_lines
 from .tree import leaf
 
 FIRST = 5
@@ -152,7 +152,8 @@ def rows_of_forms(story):
     log, others = story.log, []
     many = framed(FIRST, [*log.proof(FIRST, FIRST + 4), *[leaf(b'')] * 61], log.key.note(log.text(FIRST + 4)))
     table = [(name, 'request', body) for name, body in framings(log).items()]
-    table += [(name, 'note-text', framed(FIRST, [], log.key.note(content.encode()))) for name, content in texts(log).items()]
+    texts = malformed(log.key.name, FIRST, log.list.head(FIRST))
+    table += [(name, 'note-text', framed(FIRST, [], log.key.note(content))) for name, content in texts.items()]
     for name, clause, body in [*table, ('hashes', 'most-hashes', many)]:
         got = story.refused(f'malformed.{name}', clause, f'a malformed request ({name})', body)
         others += [] if got.status == 400 else [f'{name}: {got.status}']

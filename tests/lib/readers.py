@@ -6,7 +6,8 @@ import re
 
 from suite.keys import unpacked
 from suite.notes import (  # noqa: F401
-    CONTROL, DIGITS, NAME, bytes_in, checkpoint_in, decoded, hash_in, lines_in, note_in, number, signature_lines)
+    CONTROL, DIGITS, NAME, bytes_in, checkpoint_in, decoded, hash_in, hashes_in, lines_in, note_in, number, request_in,
+    signature_lines)
 
 from .keys import ORIGIN, SeedKey, sum_of
 from .tree import grows, leaf, node, root, sha
@@ -18,11 +19,6 @@ HASH = '([A-Za-z0-9+/]{43}=)'
 INCLUSION = re.compile(f'inclusion\nindex {DIGITS}\nsize {DIGITS}\nleaf {HASH}\nroot {HASH}\n((?:{HASH}\n)*)')
 CONSISTENCY = re.compile(f'consistency\nold {DIGITS}\noldroot {HASH}\nsize {DIGITS}\nroot {HASH}\n((?:{HASH}\n)*)')
 PATH = re.compile(r'tile/(entries|[0-7])/((?:x[0-9]{3}/){0,5})([0-9]{3})(?:\.p/([1-9][0-9]{0,2}))?')
-
-
-def hashes_in(words):
-    found = [hash_in(word) for word in words]
-    return None if None in found else found
 
 
 def opened(note, keys):
@@ -174,12 +170,3 @@ def first_refused(data):
             return place
         head = size, top
     return None
-
-
-def request_in(data):
-    """The old size, the proof and the note of a request to a witness."""
-    whole = decoded(data)
-    front, cut, note = ('\n' + (whole or '')).partition('\n\n')
-    words = front[1:].split('\n')
-    old, hashes = number(words[0][4:]) if words[0].startswith('old ') else None, hashes_in(words[1:])
-    return None if not cut or None in (old, hashes) or len(hashes) > 63 else (old, hashes, note.encode())
