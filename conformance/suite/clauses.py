@@ -56,6 +56,7 @@ older | RFC 6962 | 2.1.2 | SHOULD | A log isn't shown smaller than it was seen
 scalar | RFC 8032 | 5.1.7 | MUST | The scalar of a signature is below the order of the group
 not-there | RFC 9110 | 15.5.5 | SHOULD | What isn't there is answered 404 (or 410, or 403 by stores of objects)
 status | RFC 9110 | 15 | MUST | Only an answer with status 200 is the resource
+interim | RFC 9110 | 15.2 | MUST | Interim answers (1xx) are passed over
 method | RFC 9110 | 15.5.6 | SHOULD | Another method is answered 405, with Allow
 coding | RFC 9110 | 12.5.3 | SHOULD | A body isn't encoded if only identity is accepted
 incomplete | RFC 9112 | 8 | MUST | A body that is cut short isn't taken for whole

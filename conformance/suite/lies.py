@@ -89,10 +89,11 @@ def transports(makers):
     log = makers.log()
     for name, way in (('chunks', stage.chunks), ('closed', stage.without_length),
                       ('old', lambda body: stage.without_length(body, 'HTTP/1.0')),
-                      ('interim', lambda body: [b'HTTP/1.1 103 Early Hints\r\n\r\n', *stage.whole(body)]),
                       ('lower', lambda body: [part.replace(b'Content-Length', b'content-length') for part in stage.whole(body)])):
         shows = {path: way(body) for path, body in log.items()}
         yield Scene(f'http.{name}', 'framing', f'answers over HTTP ({name})', shows)
+    shows = {path: [b'HTTP/1.1 100 Continue\r\n\r\n', *stage.whole(body)] for path, body in log.items()}
+    yield Scene('http.interim', 'interim', 'answers after interim ones', shows)
     for kind, path, index in (('checkpoint', CHECKPOINT, 290), ('tile', FULL, 10), ('bundle', FIRST, 10)):
         body = log[path]
         ways = {'cut': ('incomplete', stage.whole(body, path, more=32)), 'endless': ('ends', stage.endless(body)),

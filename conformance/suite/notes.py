@@ -1,10 +1,10 @@
-"""Signed notes and checkpoints (C2SP signed-note, tlog-checkpoint, tlog-cosignature): their texts, and strict readers of them.
+"""Signed notes and checkpoints (C2SP signed-note, tlog-checkpoint): their texts, and strict readers of them.
 What isn't such a text is None, or the name of a fault.
 """
 import base64
 import re
 
-from .keys import cosigned_message, is_valid
+from .keys import is_valid
 from .tree import text
 
 # White space of Unicode, plus, and what is below a space: not in a key's name.
@@ -121,12 +121,3 @@ def is_signed(note, key):
     """Whether a note has a line of this key, and each line of it is valid."""
     marks = marks_by(key, note[1])
     return bool(marks) and all(is_valid(key.public, note[0].encode(), mark) for mark in marks)
-
-
-def cosigned_at(key, lines, content):
-    """The time of the first of these lines that is a key's cosignature of a text, and None if there is none."""
-    for mark in marks_by(key, lines):
-        seconds = int.from_bytes(mark[:8], 'big')
-        if len(mark) == 72 and is_valid(key.public, cosigned_message(content, seconds), mark[8:]):
-            return seconds
-    return None

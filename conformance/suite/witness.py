@@ -46,8 +46,10 @@ class Story:
 
     def grows(self, name, size, clause='cosigns'):
         """A row: the log is cosigned at a larger size."""
-        log, body = self.log, self.log.body(self.log.size, size)
-        if self.cosigned(name, clause, f'from {log.size} to {size}: cosigned', body, log.text(size)):
+        log, what = self.log, f'from {self.log.size} to {size}: cosigned'
+        if size <= log.size:
+            self.report.skip(name, clause, what, 'the witness has cosigned more already')
+        elif self.cosigned(name, clause, what, log.body(log.size, size), log.text(size)):
             log.size = size
 
 
@@ -213,6 +215,9 @@ def rows_of_restart(story, command):
 def rows_of_growth(story, sizes, clause, name):
     for size in sizes:
         story.grows(f'{name}.{size}', size, clause)
+        if clause == 'sizes':
+            got = story.witness.post(story.log.body(0, size))
+            story.report.row(f'{name}.{size}-told', 'old-told', f'then from 0: the size {size}', told(got) == size, got)
     story.conflicts(f'{name}.last', f'then from 0 to {story.log.size}', story.log.body(0, story.log.size))
 
 
