@@ -2,80 +2,22 @@
 RFC 8032, 9112 and 9162), with nothing of the program's own: what these say is due where the program is given such bytes.
 What isn't such a text is None, or a fault's name.
 """
-import base64
 import re
 
-from .keys import CURVE, ORIGIN, PRIME, SeedKey, sum_of
-from .tree import leaf, node, root, sha, text
+from suite.keys import unpacked
+from suite.notes import (  # noqa: F401
+    CONTROL, DIGITS, NAME, bytes_in, checkpoint_in, decoded, hash_in, hashes_in, note_in, number, request_in, signature_lines)
 
-# White space of Unicode, plus, and what is below a space: not in a key's name.
-NAME = '[^\x00-\x20+\x85\xa0\u1680\u2000-\u200a\u2028\u2029\u202f\u205f\u3000]+'
-CONTROL = re.compile('[\x00-\x09\x0b-\x1f]')
+from .keys import ORIGIN, SeedKey, sum_of
+from .tree import grows, leaf, node, root, sha
+
 TOKEN = rb"[!#$%&'*+.^_`|~0-9A-Za-z-]+"
 FIELD = TOKEN + rb':[\t -~\x80-\xff]*\r?\n'
 HEAD = re.compile(rb'(?:\r?\n)*(%s) ([!-~\x80-\xff]+) HTTP/1\.[01]\r?\n((?:%s)*)\r?\n' % (TOKEN, FIELD))
-DIGITS, HASH = '(0|[1-9][0-9]{0,18})', '([A-Za-z0-9+/]{43}=)'
+HASH = '([A-Za-z0-9+/]{43}=)'
 INCLUSION = re.compile(f'inclusion\nindex {DIGITS}\nsize {DIGITS}\nleaf {HASH}\nroot {HASH}\n((?:{HASH}\n)*)')
 CONSISTENCY = re.compile(f'consistency\nold {DIGITS}\noldroot {HASH}\nsize {DIGITS}\nroot {HASH}\n((?:{HASH}\n)*)')
 PATH = re.compile(r'tile/(entries|[0-7])/((?:x[0-9]{3}/){0,5})([0-9]{3})(?:\.p/([1-9][0-9]{0,2}))?')
-
-
-def decoded(data):
-    try:
-        return data.decode()
-    except UnicodeDecodeError:
-        return None
-
-
-def number(word):
-    return int(word) if re.fullmatch(DIGITS, word) and int(word) < 2 ** 63 else None
-
-
-def bytes_in(word):
-    """The bytes of which a word is the base64."""
-    try:
-        data = base64.b64decode(word, validate=True)
-    except ValueError:
-        return None
-    return data if text(data) == word else None
-
-
-def hash_in(word):
-    data = bytes_in(word)
-    return data if data is not None and len(data) == 32 else None
-
-
-def hashes_in(words):
-    found = [hash_in(word) for word in words]
-    return None if None in found else found
-
-
-def lines_in(whole):
-    """The lines of a text, each ended by a newline."""
-    lines = whole.split('\n')
-    return None if lines.pop() else lines
-
-
-def signature_lines(whole):
-    """Name, identifier, base64 and signature of each of 1 to 100 signature lines."""
-    lines, found = lines_in(whole), []
-    if not lines or len(lines) > 100:
-        return None
-    for line in lines:
-        parts = re.fullmatch(f'\u2014 ({NAME}) (.+)', line)
-        data = parts and bytes_in(parts[2])
-        if not data or len(data) < 5:
-            return None
-        found.append((parts[1], data[:4], parts[2], data[4:]))
-    return found
-
-
-def note_in(data):
-    """The text of a note and its signature lines."""
-    whole = decoded(data)
-    cut = -1 if whole is None or CONTROL.search(whole) else whole.rfind('\n\n')
-    lines = None if cut < 0 else signature_lines(whole[cut + 2:])
-    return lines and (whole[:cut + 1], lines)
 
 
 def opened(note, keys):
@@ -96,28 +38,11 @@ def opened(note, keys):
     return (count, unknown) if count else 'Unverified'
 
 
-def checkpoint_in(whole):
-    """Origin, size and root of a checkpoint, or the first fault."""
-    lines = lines_in(whole)
-    if not lines or len(lines) < 3 or CONTROL.search(whole) or '' in lines[3:]:
-        return 'Lines'
-    size, top = number(lines[1]), hash_in(lines[2])
-    fault = 'Origin' if not lines[0] else 'Size' if size is None else 'Root' if top is None else None
-    return fault or (lines[0], size, top)
-
-
 def is_sound(public):
     """Whether 32 bytes are the one spelling of a point that isn't of small order (RFC 8032, section 5.1.3)."""
-    y, sign = int.from_bytes(public, 'little') & (1 << 255) - 1, public[31] >> 7
-    if y >= PRIME:
+    point = unpacked(public)
+    if point is None:
         return False
-    square = (y * y - 1) * pow(CURVE * y * y + 1, -1, PRIME) % PRIME
-    x = pow(square, (PRIME + 3) // 8, PRIME)
-    x = x if x * x % PRIME == square else x * pow(2, (PRIME - 1) // 4, PRIME) % PRIME
-    if x * x % PRIME != square or (x == 0 and sign):
-        return False
-    x = x if x & 1 == sign else PRIME - x
-    point = x, y, 1, x * y % PRIME
     for _ in range(3):
         point = sum_of(point, point)
     return point[0] != 0
@@ -183,30 +108,6 @@ def includes(index, size, hash, top, proof):
     return last == 0 and hash == top
 
 
-def grows(old, old_top, size, top, proof):
-    """Whether a consistency proof is accepted (RFC 9162, section 2.1.4.2); from no entries it has no hashes."""
-    if old == size or old == 0 or old > size:
-        return not proof and (old_top == top if old == size else old == 0 and old_top == sha(b''))
-    proof = ([old_top] if old & (old - 1) == 0 else []) + proof
-    if not proof:
-        return False
-    place, last = old - 1, size - 1
-    while place & 1:
-        place, last = place >> 1, last >> 1
-    one = other = proof[0]
-    for hash in proof[1:]:
-        if last == 0:
-            return False
-        if place & 1 or place == last:
-            one, other = node(hash, one), node(hash, other)
-            while place and not place & 1:
-                place, last = place >> 1, last >> 1
-        else:
-            other = node(other, hash)
-        place, last = place >> 1, last >> 1
-    return last == 0 and one == old_top and other == top
-
-
 def proof_in(data):
     """What a text of a proof says: whether it is accepted, its size and root, and the hash that it shows."""
     whole = decoded(data) or ''
@@ -268,12 +169,3 @@ def first_refused(data):
             return place
         head = size, top
     return None
-
-
-def request_in(data):
-    """The old size, the proof and the note of a request to a witness."""
-    whole = decoded(data)
-    front, cut, note = ('\n' + (whole or '')).partition('\n\n')
-    words = front[1:].split('\n')
-    old, hashes = number(words[0][4:]) if words[0].startswith('old ') else None, hashes_in(words[1:])
-    return None if not cut or None in (old, hashes) or len(hashes) > 63 else (old, hashes, note.encode())
