@@ -7,7 +7,7 @@ use std::alloc::{AllocError, AllocFailed};
 
 /// Why a text is no policy's. Lines are counted from 1; the first line that is wrong decides, and in it what stands first
 /// here.
-#[derive(Clone, Copy, Debug, PartialEq, Eq)]
+#[derive(Copy)]
 pub enum PolicyFault {
     /// The line begins with another word, or has too few words or too many.
     Malformed(u64),
@@ -33,6 +33,12 @@ pub enum PolicyFault {
     NoQuorum,
     /// Memory ran out.
     OutOfMemory,
+}
+
+impl Clone for PolicyFault {
+    fn clone(&self) -> Result<PolicyFault, AllocError> {
+        Ok(*self)
+    }
 }
 
 impl From<AllocError> for PolicyFault {
