@@ -1,0 +1,10 @@
+pub mod CosignedLaws
+pub mod ListLaws
+pub mod MemberLaws
+pub mod MoreLaws
+pub mod NamingLaws
+pub mod NeedLaws
+pub mod ReadingLaws
+pub mod SatisfiedLaws
+pub mod ThresholdLaws
+pub mod WordLaws

@@ -1,0 +1,58 @@
+//! Why a text is no policy's.
+
+ghost use Rattle.std.specs.Prelude.{◌≡◌};
+ghost use Rattle.tl_policy.specs.declared.fault.PolicyFault.TheVariants.{OutOfMemory};
+
+use std::alloc::{AllocError, AllocFailed};
+
+/// Why a text is no policy's. Lines are counted from 1; the first line that is wrong decides, and in it what stands first
+/// here.
+#[derive(Copy)]
+pub enum PolicyFault {
+    /// The line begins with another word, or has too few words or too many.
+    Malformed(u64),
+    /// The line gives a name that is given already, or `none`.
+    TwiceNamed(u64),
+    /// The key isn't the text of a key of its kind.
+    BadKey(u64),
+    /// The public key is that of an earlier line.
+    TwiceKeyed(u64),
+    /// There are 1024 groups before this line's.
+    TooManyGroups(u64),
+    /// No earlier line has this name.
+    UnknownMember(u64),
+    /// A member stands in a group already.
+    TwiceMember(u64),
+    /// The threshold isn't `any`, `all` or a number from 1 to that of the members.
+    BadThreshold(u64),
+    /// The line is a second quorum.
+    SecondQuorum(u64),
+    /// No line is a log.
+    NoLog,
+    /// No line is a quorum.
+    NoQuorum,
+    /// Memory ran out.
+    OutOfMemory,
+}
+
+impl Clone for PolicyFault {
+    fn clone(&self) -> Result<PolicyFault, AllocError> {
+        Ok(*self)
+    }
+}
+
+impl From<AllocError> for PolicyFault {
+    ghost from_gives = { λ _ fault. fault ≡ OutOfMemory };
+
+    fn from(_fault: AllocError) -> PolicyFault {
+        PolicyFault::OutOfMemory
+    }
+}
+
+impl<X: Drop> From<AllocFailed<X>> for PolicyFault {
+    ghost from_gives = { λ _ fault. fault ≡ OutOfMemory };
+
+    fn from(_fault: AllocFailed<X>) -> PolicyFault {
+        PolicyFault::OutOfMemory
+    }
+}
