@@ -1,14 +1,14 @@
 //! What a log has published, and what a publication needs.
 //!
-//! A log is a list of entries that only grows. It publishes by signing a checkpoint (C2SP tlog-checkpoint) of its first n
-//! entries. A *publication* is these entries and that note, and the log's *history* is the list of its publications, each
-//! of which extends the one before. A client of a publication asks for the tiles and bundles that a tree of n entries
-//! consists of (C2SP tlog-tiles): those are the resources that the publication *needs*, and a place that keeps a log must
-//! have all of them, with the bytes that the first n entries give.
+//! A log is a list of entries that only grows. It publishes by signing a checkpoint (C2SP tlog-checkpoint) of its
+//! first n entries. A *publication* is these entries and that note, and the log's *history* is the list of its
+//! publications, each of which extends the one before. A client of a publication asks for the tiles and bundles that
+//! a tree of n entries consists of (C2SP tlog-tiles): those are the resources that the publication *needs*, and a
+//! place that keeps a log must have all of them, with the bytes that the first n entries give.
 //!
 //! The crate has the definitions, in `specs/`, and the laws about them; it computes nothing. The operator's board
-//! (`tl_publisher`), a shelf (`tl_archive`), and the ledger of a log on one (`tl_ledger`) all promise what they do in these
-//! words. So a contract that says
+//! (`tl_publisher`), a shelf (`tl_archive`), and the ledger of a log on one (`tl_ledger`) all promise what they do in
+//! these words. So a contract that says
 //!
 //! ```text
 //! ensures { IsGrowing history }

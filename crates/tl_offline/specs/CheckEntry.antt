@@ -20,8 +20,8 @@ ChecksEntry H p size root leaf (Ok done) = Accepts H p size root leaf
 ChecksEntry H p size root leaf (Err IndexOutOfRange) = size ≤ p.index
 ChecksEntry H p size root leaf (Err NotIncluded) = (p.index < size) × ¬ (Accepts H p size root leaf)
 
--- an entry that is accepted under the size and root of a list is in it, at the proof's index, or one of the byte strings
--- hashed for the check and one of those hashed for the list are different and have one digest
+-- an entry that is accepted under the size and root of a list is in it, at the proof's index, or one of the byte
+-- strings hashed for the check and one of those hashed for the list are different and have one digest
 abbrev pub AcceptedEntriesAreListed : Type 0
 AcceptedEntriesAreListed =
     (H : Digest) → ((message : Bytes) → HasHashLength (H message))

@@ -31,8 +31,9 @@ impl Display for EntryFault {
 impl Error for EntryFault {}
 
 /// Reports whether the hashes of a proof lead from a leaf hash, at the proof's index, to the root of `size` entries
-/// (RFC 6962, section 2.1.1). Size and root are those of the checkpoint, once its note opened. The entry is then at that
-/// index in every list of this size and root, or two inputs collide (`accepted_entries_are_listed`). It takes no memory.
+/// (RFC 6962, section 2.1.1). Size and root are those of the checkpoint, once its note opened. The entry is then at
+/// that index in every list of this size and root, or two inputs collide (`accepted_entries_are_listed`). It takes no
+/// memory.
 pub fn check_entry<T: TreeHash, A: Allocator>(
     h: T,
     proof: &OfflineProof<'_, A>,

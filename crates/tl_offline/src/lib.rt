@@ -17,8 +17,8 @@
 //! ```
 //!
 //! A check has three steps. `parse_proof` reads the text. Its note opens under the keys that the reader trusts
-//! (`tl_checkpoint`), which says what the log and its witnesses signed. `check_entry` then says whether the entry's leaf
-//! hash is at the proof's index under the size and root of that checkpoint:
+//! (`tl_checkpoint`), which says what the log and its witnesses signed. `check_entry` then says whether the entry's
+//! leaf hash is at the proof's index under the size and root of that checkpoint:
 //!
 //! ```rust
 //! let proof = parse_proof(alloc, text)?;
