@@ -41,13 +41,18 @@ def framed(old, hashes, note):
 
 
 class Witness:
-    """The witness that is asked, by its address and its verifier key."""
+    """The witness that is asked, by its address and its verifier key, and the seconds that an answer has."""
 
-    def __init__(self, url, key):
-        self.url, self.key = url, key
+    def __init__(self, url, key, seconds):
+        self.url, self.key, self.seconds, self.silent = url, key, seconds, 0
 
     def post(self, body):
-        return web.ask(self.url, 'add-checkpoint', body)
+        """The answer to a request. After three that had none, nothing more is asked."""
+        if self.silent == 3:
+            return web.Answer(0, {}, b'not asked, since the last three requests had no answer')
+        got = web.ask(self.url, 'add-checkpoint', body, seconds=self.seconds)
+        self.silent = 0 if got.status else self.silent + 1
+        return got
 
     def marks(self, answer):
         """What the witness's key signed with, in an answer."""

@@ -22,8 +22,8 @@ STRANGER = b'a key that nobody trusts, 32 b..'
 class Story:
     """The witness, the log, and the report of the rows."""
 
-    def __init__(self, report, url, key, log_key):
-        self.report, self.witness, self.log = report, Witness(url, key), Log(log_key)
+    def __init__(self, report, witness, log):
+        self.report, self.witness, self.log = report, witness, log
 
     def refused(self, name, clause, what, body, *status):
         """A row: a request is answered by one of these status, or by any from 400 on."""
@@ -65,8 +65,8 @@ def rows_of_key(story):
 def rows_of_first(story):
     """The first checkpoint, from size 0."""
     log, report = story.log, story.report
-    story.refused('first.proof', 'proof-none', 'from 0 with a hash', log.body(0, FIRST, proof=[leaf(b'')]))
-    got = story.witness.post(log.body(0, FIRST))
+    got = story.refused('first.proof', 'proof-none', 'from 0 with a hash', log.body(0, FIRST, proof=[leaf(b'')]))
+    got = got if got.status == 200 else story.witness.post(log.body(0, FIRST))
     log.size = FIRST
     report.row('first.status', 'cosigns', f'from 0 to {FIRST}: 200 (the log is new to the witness)',
                got.status == 200, got)
@@ -116,7 +116,8 @@ def rows_of_proofs(story):
 def rows_of_origins(story):
     """Origins that the witness doesn't know."""
     log, seed = story.log, b'o' * 32
-    for name, origin in (('other', 'nobody.example/log'), ('longer', f'{log.key.name}x'), ('shorter', log.key.name[:-1]),
+    for name, origin in (('other', 'nobody.example/log'), ('longer', f'{log.key.name}x'),
+                         ('shorter', log.key.name[:-1]),
                          ('capitals', log.key.name.upper()), ('space', f'{log.key.name} ')):
         key = SeedKey(seed, origin.strip())
         story.refused(f'unknown.{name}', 'unknown-log', f'an unknown origin ({name})',
@@ -225,6 +226,7 @@ def rows_of_restart(story, command):
     subprocess.run(command, shell=True, check=True, stdout=subprocess.DEVNULL)
     end = time.monotonic() + 30
     while (got := story.witness.post(log.body(0, log.size))).status == 0 and time.monotonic() < end:
+        story.witness.silent = 0
         time.sleep(0.1)
     story.report.row('restart.kept', 'persists', f'{what}: 409 and the size', told(got) == log.size, got)
     story.grows('restart.grows', log.size + 1)
@@ -240,9 +242,9 @@ def rows_of_growth(story, sizes, clause, name):
     story.conflicts(f'{name}.last', f'then from 0 to {story.log.size}', story.log.body(0, story.log.size))
 
 
-def run(report, url, key, log_key, restart=None):
+def run(report, url, key, log_key, restart=None, seconds=20):
     """The rows of a witness that has never seen the log of this key."""
-    story = Story(report, url, key, log_key)
+    story = Story(report, Witness(url, key, seconds), Log(log_key))
     for part in (rows_of_key, rows_of_first, rows_of_sizes, rows_of_proofs, rows_of_origins, rows_of_signatures,
                  rows_of_extensions, rows_of_forms, rows_of_methods):
         part(story)
