@@ -41,13 +41,18 @@ def framed(old, hashes, note):
 
 
 class Witness:
-    """The witness that is asked, by its address and its verifier key."""
+    """The witness that is asked, by its address and its verifier key, and the seconds that an answer has."""
 
-    def __init__(self, url, key):
-        self.url, self.key = url, key
+    def __init__(self, url, key, seconds):
+        self.url, self.key, self.seconds, self.silent = url, key, seconds, 0
 
     def post(self, body):
-        return web.ask(self.url, 'add-checkpoint', body)
+        """The answer to a request. After three that had none, nothing more is asked."""
+        if self.silent == 3:
+            return web.Answer(0, {}, b'not asked, since the last three requests had no answer')
+        got = web.ask(self.url, 'add-checkpoint', body, seconds=self.seconds)
+        self.silent = 0 if got.status else self.silent + 1
+        return got
 
     def marks(self, answer):
         """What the witness's key signed with, in an answer."""
@@ -84,19 +89,22 @@ def with_mark(log, mark, size, name=None, id=None):
 # Requests that aren't as they are to be. All else about them is right, so whoever passes over what is wrong cosigns.
 
 def framings(log):
-    """Requests whose lines aren't as they are to be, by what is wrong: for the size that the witness has, as far as that can
-    be, and else for a larger one."""
+    """Requests whose lines aren't as they are to be, by what is wrong: for the size that the witness has, as far as
+    that can be, and else for a larger one."""
     old, size = log.size, log.size + 4
     front, note, grown = b'old %d\n' % old, log.key.note(log.text(old)), log.key.note(log.text(size))
     first, *others = [text(hash).encode() for hash in log.proof(old, size)]
     hash, rest = log.proof(old, size)[0], b''.join(other + b'\n' for other in others) + b'\n' + grown
-    lines = {'zeros': b'old 0%d\n', 'sign': b'old +%d\n', 'spaces': b'old  %d\n', 'behind': b'old %d \n', 'crlf': b'old %d\r\n',
+    lines = {'zeros': b'old 0%d\n', 'sign': b'old +%d\n', 'spaces': b'old  %d\n', 'behind': b'old %d \n',
+             'crlf': b'old %d\r\n',
              'capitals': b'OLD %d\n', 'hexadecimal': b'old 0x%x\n', 'point': b'old %d.0\n', 'word': b'%d\n'}
-    hashes = {'short': first[:-2], 'unpadded': first[:-1], 'behind': first + b' ', 'crlf': first + b'\r', 'hexadecimal': hash.hex().encode(),
+    hashes = {'short': first[:-2], 'unpadded': first[:-1], 'behind': first + b' ', 'crlf': first + b'\r',
+              'hexadecimal': hash.hex().encode(),
               'of-31': text(hash[:31]).encode(), 'of-33': text(hash + b'x').encode(), 'quoted': b'"%s"' % first}
     notes = {'missing': b'', 'unsigned': log.text(old), 'cut': note[:-1], 'crlf': note.replace(b'\n', b'\r\n'),
              'dash': note.replace('\u2014'.encode(), b'-')}
-    return {'empty': b'', 'old-missing': b'\n' + note, 'gap-missing': front + note, 'hash-after-gap': front + b'\n' + first + b'\n' + rest[1:],
+    return {'empty': b'', 'old-missing': b'\n' + note, 'gap-missing': front + note,
+            'hash-after-gap': front + b'\n' + first + b'\n' + rest[1:],
             **{f'old-{name}': line % old + b'\n' + note for name, line in lines.items()},
             **{f'hash-{name}': front + line + b'\n' + rest for name, line in hashes.items()},
             **{f'note-{name}': front + b'\n' + other for name, other in notes.items()}}
@@ -107,7 +115,8 @@ def wrong_proofs(log, size):
     right, old = log.proof(log.size, size), log.size
     changed = {f'changed-{place}': [*right[:place], bytes([hash[0] ^ 1]) + hash[1:], *right[place + 1:]]
                for place, hash in enumerate(right)}
-    return {'none': [], 'short': right[:-1], 'late': right[1:], 'long': [*right, right[-1]], 'longer': [*right, *right],
+    return {'none': [], 'short': right[:-1], 'late': right[1:], 'long': [*right, right[-1]],
+            'longer': [*right, *right],
             'zeros': [bytes(32)] * len(right), 'turned': right[::-1], 'of-another-size': log.proof(old - 1, size),
             'of-a-larger-one': log.proof(old, size + 1), **changed}
 

@@ -1,5 +1,5 @@
-"""Rows on a client: a command reads logs of the suite's own, must take each honest one, and refuse each lie that it asked
-for. It takes a log by ending with status 0, and refuses it by any other one.
+"""Rows on a client: a command reads logs of the suite's own, must take each honest one, and refuse each lie that it
+asked for. It takes a log by ending with status 0, and refuses it by any other one.
 """
 import concurrent.futures
 import subprocess
@@ -22,13 +22,15 @@ class Command:
 
     def run(self, url, folder, index):
         """How the command ended, and what it told."""
-        values = {'url': url, 'vkey': self.makers.key.verifier, 'origin': ORIGIN, 'state': f'{folder}/state', 'folder': folder,
+        values = {'url': url, 'vkey': self.makers.key.verifier, 'origin': ORIGIN, 'state': f'{folder}/state',
+                  'folder': folder,
                   'index': str(index), 'witness': self.makers.witness.verifier}
         words = self.words
         for name, value in values.items():
             words = [word.replace('{%s}' % name, value) for word in words]
         try:
-            how = {'stdin': subprocess.DEVNULL, 'stdout': subprocess.PIPE, 'stderr': subprocess.STDOUT, 'timeout': self.seconds}
+            how = {'stdin': subprocess.DEVNULL, 'stdout': subprocess.PIPE, 'stderr': subprocess.STDOUT,
+                   'timeout': self.seconds}
             done = subprocess.run(words, cwd=folder, check=False, **how)
         except subprocess.TimeoutExpired as late:
             return LATE, late.output or b''

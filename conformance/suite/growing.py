@@ -23,8 +23,8 @@ def head_of(url, key):
 
 
 def post(url, entry):
-    """The index of an entry that is posted, and what was answered if there is none. One that wasn't published is posted
-    again."""
+    """The index of an entry that is posted, and what was answered if there is none. One that wasn't published is
+    posted again."""
     for _ in range(10):
         got = web.ask(url, 'add', entry, seconds=PATIENCE)
         if got.status != 503:
@@ -41,7 +41,8 @@ def post_all(report, url, count):
     with concurrent.futures.ThreadPoolExecutor(AT_ONCE) as pool:
         answers = list(pool.map(lambda entry: post(url, entry), entries))
     wrong = [got for got in answers if not isinstance(got, int)]
-    report.row('grown.posted', 'added', f'{count} entries that are posted to /add get an index', not wrong, *wrong[:3])
+    report.row('grown.posted', 'added', f'{count} entries that are posted to /add get an index', not wrong,
+               *wrong[:3])
     return {index: entry for entry, index in zip(entries, answers) if isinstance(index, int)}
 
 
@@ -61,7 +62,8 @@ def rows_of_kept(report, old):
     now = {path: web.ask(old.url, path) for path, _ in there}
     changed = [(path, got, now[path]) for path, got in there
                if now[path].status == 200 and web.plain(now[path]) != web.plain(got)]
-    report.row('grown.same', 'immutable', f'each of {len(there)} tiles and bundles that were served is the same', not changed, *changed[:3])
+    report.row('grown.same', 'immutable', f'each of {len(there)} tiles and bundles that were served is the same',
+               not changed, *changed[:3])
     gone = [path for path, got in now.items() if got.status != 200]
     lost = [(path, now[path]) for path in gone if now[path].status not in GONE or '.p/' not in path
             or web.ask(old.url, path.partition('.p/')[0]).status != 200]
@@ -87,10 +89,12 @@ def rows_of_growth(report, old, head, now, added):
     tree = type(old)(old.url, size)
     report.row('grown.size', 'older', f'the log grew from {head.size} to {size}', size >= head.size)
     report.row('grown.origin', 'origin', 'its origin is the same', origin == head.origin, origin)
-    report.row('grown.root', 'tree', 'its tiles have the new root', tree.root_at(size) == top, tree.root_at(size).hex())
+    report.row('grown.root', 'tree', 'its tiles have the new root', tree.root_at(size) == top,
+               tree.root_at(size).hex())
     if size >= head.size:
         begun = tree.root_at(head.size)
-        report.row('grown.begins', 'append-only', 'its tree begins with the old one', begun == head.root, begun.hex(), head.root.hex())
+        report.row('grown.begins', 'append-only', 'its tree begins with the old one', begun == head.root, begun.hex(),
+                   head.root.hex())
     rows_of_kept(report, old)
     rows_of_added(report, tree, added)
     places = [(level, (size >> 8 * level) - 1 >> 8) for level in range(8) if size >> 8 * level]
@@ -107,7 +111,8 @@ def run(report, tree, head, key, adds, wait):
             report.row('grown.signed', 'verified', 'the later checkpoint can be trusted', False, now)
             return
         if now[1] == head.size:
-            report.row('grown.equal', 'append-only', 'of the same size, it has the same root', now[2] == head.root, now[2].hex())
+            report.row('grown.equal', 'append-only', 'of the same size, it has the same root', now[2] == head.root,
+                       now[2].hex())
             report.skip('grown.begins', 'append-only', 'its tree begins with the old one', "it didn't grow")
             return
         tree = rows_of_growth(report, tree, head, now, added)

@@ -1,4 +1,5 @@
-"""The scenes that a client is shown: honest logs, and logs that lie. Each lie is about one resource, and all else is right."""
+"""The scenes that a client is shown: honest logs, and logs that lie. Each lie is about one resource, and all else is
+right."""
 import functools
 
 from . import stage
@@ -15,8 +16,8 @@ PAGE = b'<!DOCTYPE html><html><body>not found</body></html>\n'
 
 
 class Scene:
-    """What a command is shown: resources by path, of which some may be lies, and what it was shown before with the same
-    state. `needs` is a placeholder without which the scene shows nothing."""
+    """What a command is shown: resources by path, of which some may be lies, and what it was shown before with the
+    same state. `needs` is a placeholder without which the scene shows nothing."""
 
     def __init__(self, name, clause, what, shows, lies=(), before=None, index=290, needs=''):
         self.name, self.clause, self.what, self.shows, self.lies = name, clause, what, shows, set(lies)
@@ -35,7 +36,8 @@ def head(size, fork=None):
 
 
 class Makers:
-    """The log's key, its witness, and the logs that they sign. Checkpoints are cosigned if the command knows the witness."""
+    """The log's key, its witness, and the logs that they sign. Checkpoints are cosigned if the command knows the
+    witness."""
 
     def __init__(self, is_witnessed):
         self.key = SeedKey(b'the key of the conforming log .. ', ORIGIN)
@@ -73,10 +75,12 @@ def honest(makers):
     odd = [b'', b'\n', b'a\nb', bytes(range(256)), b'\\', b'\xff\xfe', bytes(65535), b'x' * 65535, b'', b'']
     yield Scene('honest.bytes', 'bundle', 'entries of any bytes, none and 65,535 of them', makers.of(odd), index=3)
     content, log = makers.text(), makers.log()
-    others = SeedKey(b'o' * 32, 'other.example/log'), SeedKey(b'n' * 32, ORIGIN), SeedKey(b'w' * 32, 'w.example', COSIGNER)
+    others = SeedKey(b'o' * 32, 'other.example/log'), SeedKey(b'n' * 32, ORIGIN), SeedKey(b'w' * 32, 'w.example',
+                                                                                          COSIGNER)
     lines = [others[0].line(content), others[1].line(content), others[2].cosigned(content, TIME)]
     yield Scene('honest.lines', 'unknown-keys', 'lines of unknown keys before and behind its own',
-                {**log, CHECKPOINT: makers.with_lines(content, *lines, makers.key.line(content), others[0].line(b''))})
+                {**log, CHECKPOINT: makers.with_lines(content, *lines, makers.key.line(content),
+                                                      others[0].line(b''))})
     more = checkpoint(ORIGIN, SIZE, head(SIZE), 'an extension', 'and another')
     yield Scene('honest.extensions', 'extensions', 'extension lines', {**log, CHECKPOINT: makers.signed(more)})
     longer = makers.log(600)
@@ -89,7 +93,8 @@ def transports(makers):
     log = makers.log()
     for name, way in (('chunks', stage.chunks), ('closed', stage.without_length),
                       ('old', lambda body: stage.without_length(body, 'HTTP/1.0')),
-                      ('lower', lambda body: [part.replace(b'Content-Length', b'content-length') for part in stage.whole(body)])):
+                      ('lower', lambda body: [part.replace(b'Content-Length',
+                                                           b'content-length') for part in stage.whole(body)])):
         shows = {path: way(body) for path, body in log.items()}
         yield Scene(f'http.{name}', 'framing', f'answers over HTTP ({name})', shows)
     shows = {path: [b'HTTP/1.1 100 Continue\r\n\r\n', *stage.whole(body)] for path, body in log.items()}
@@ -133,7 +138,8 @@ def texts(makers):
     """Checkpoints that are changed, or that the log's key signed and that are none, or another log's."""
     log, content = makers.log(), makers.text()
     line = makers.key.line(content)
-    for name, other in (('size', checkpoint(ORIGIN, SIZE - 1, head(SIZE))), ('root', checkpoint(ORIGIN, SIZE, head(SIZE, 0))),
+    for name, other in (('size', checkpoint(ORIGIN, SIZE - 1, head(SIZE))),
+                        ('root', checkpoint(ORIGIN, SIZE, head(SIZE, 0))),
                         ('origin', checkpoint('other.example', SIZE, head(SIZE))), ('more', content + b'more\n')):
         yield Scene(f'changed.{name}', 'verified', f'a checkpoint whose {name} was changed',
                     {**log, CHECKPOINT: makers.with_lines(other, line)}, [CHECKPOINT])
@@ -146,7 +152,8 @@ def texts(makers):
     yield Scene('origin.other', 'origin', "another log's checkpoint, signed by this one's key",
                 {**log, CHECKPOINT: makers.signed(other)}, [CHECKPOINT])
     note = log[CHECKPOINT]
-    for name, other in (('crlf', note.replace(b'\n', b'\r\n')), ('dash', note.replace('\u2014'.encode(), b'-')), ('page', PAGE),
+    for name, other in (('crlf', note.replace(b'\n', b'\r\n')), ('dash', note.replace('\u2014'.encode(), b'-')),
+                        ('page', PAGE),
                         ('gap', note.replace(b'\n\n', b'\n')), ('empty', b''), ('control', note[:-1] + b'\t\n')):
         yield Scene(f'note.{name}', 'note', f'what is no note ({name})', {**log, CHECKPOINT: other}, [CHECKPOINT])
 
@@ -156,14 +163,19 @@ def tiles(makers):
     log = makers.log()
     for kind, path, index in (('full', FULL, 10), ('partial', PARTIAL, 290), ('top', TOP, 290)):
         body = log[path]
-        ways = {'changed': bytes([body[0] ^ 1]) + body[1:], 'end': body[:-1] + bytes([body[-1] ^ 1]), 'cut': body[:-1],
-                'short': body[:-32], 'long': body + bytes(32), 'longer': body + b'x', 'doubled': body * 2, 'empty': b'',
+        ways = {'changed': bytes([body[0] ^ 1]) + body[1:], 'end': body[:-1] + bytes([body[-1] ^ 1]),
+                'cut': body[:-1],
+                'short': body[:-32], 'long': body + bytes(32), 'longer': body + b'x', 'doubled': body * 2,
+                'empty': b'',
                 'page': PAGE, 'missing': None}
-        ways.update({'exchanged': body[32:64] + body[:32] + body[64:], 'other': log[TOP]} if path != TOP else {'other': log[PARTIAL]})
+        ways.update({'exchanged': body[32:64] + body[:32] + body[64:],
+                     'other': log[TOP]} if path != TOP else {'other': log[PARTIAL]})
         for name, other in ways.items():
-            yield Scene(f'tile-{kind}.{name}', 'tile', f'a wrong tile, the {kind} one ({name})', {**log, path: other}, [path], index=index)
+            yield Scene(f'tile-{kind}.{name}', 'tile', f'a wrong tile, the {kind} one ({name})', {**log, path: other},
+                        [path], index=index)
     lied = {**makers.log(SIZE, 0), CHECKPOINT: log[CHECKPOINT]}
-    yield Scene('tiles.other', 'tree', "another log's tiles and bundles", lied, [path for path in lied if path != CHECKPOINT])
+    yield Scene('tiles.other', 'tree', "another log's tiles and bundles", lied,
+                [path for path in lied if path != CHECKPOINT])
 
 
 def bundles(makers):
@@ -174,13 +186,16 @@ def bundles(makers):
         changed = [*some[:place], some[place] + b'x', *some[place + 1:]]
         turned = [*some[:place], some[place + 1], some[place], *some[place + 2:]]
         moved = [*some[:place], some[place] + some[place + 1][:1], some[place + 1][1:], *some[place + 2:]]
-        ways = {'changed': bundle(changed), 'exchanged': bundle(turned), 'moved': bundle(moved), 'short': bundle(some[:-1]),
-                'long': bundle([*some, b'more']), 'none-more': bundle([*some, b'']), 'wide': bundle(some, 4), 'cut': body[:-1],
+        ways = {'changed': bundle(changed), 'exchanged': bundle(turned), 'moved': bundle(moved),
+                'short': bundle(some[:-1]),
+                'long': bundle([*some, b'more']), 'none-more': bundle([*some, b'']), 'wide': bundle(some, 4),
+                'cut': body[:-1],
                 'longer': body + b'x', 'empty': b'', 'page': PAGE, 'missing': None, 'lines': b'\n'.join([*some, b'']),
                 'late': bundle([*some[1:], some[0]]), 'other': log[LAST if path == FIRST else FIRST]}
         for name, other in ways.items():
             clause = 'leaf' if name in ('changed', 'exchanged', 'moved', 'late') else 'bundle'
-            yield Scene(f'bundle-{kind}.{name}', clause, f'a wrong bundle, the {kind} one ({name})', {**log, path: other}, [path], index=index)
+            yield Scene(f'bundle-{kind}.{name}', clause, f'a wrong bundle, the {kind} one ({name})',
+                        {**log, path: other}, [path], index=index)
 
 
 def growths(makers):
@@ -188,12 +203,15 @@ def growths(makers):
     for old, size in ((1, 2), (200, SIZE), (255, 256), (256, 257), (299, SIZE), (SIZE, SIZE), (SIZE, 600)):
         yield Scene(f'grown.{old}-{size}', 'append-only', f'a log that grew from {old} to {size}', makers.log(size),
                     before=makers.log(old), index=size - 1)
-    for name, old, size, fork in (('same-size', SIZE, SIZE, SIZE - 1), ('first', 200, SIZE, 0), ('early', 200, SIZE, 100),
+    for name, old, size, fork in (('same-size', SIZE, SIZE, SIZE - 1), ('first', 200, SIZE, 0),
+                                  ('early', 200, SIZE, 100),
                                   ('last', 299, SIZE, 298), ('full', 256, 600, 255), ('larger', 10, SIZE, 9)):
         yield Scene(f'fork.{name}', 'append-only', f'after {old} entries, {size} of which others begin at {fork}',
                     makers.log(size, fork), [CHECKPOINT], makers.log(old), index=5)
-    yield Scene('older.same', 'older', 'after 300 entries, 200 of them', makers.log(200), [CHECKPOINT], makers.log(SIZE), index=5)
-    yield Scene('older.fork', 'append-only', 'after 300 entries, 200 others', makers.log(200, 100), [CHECKPOINT], makers.log(SIZE), index=5)
+    yield Scene('older.same', 'older', 'after 300 entries, 200 of them', makers.log(200), [CHECKPOINT],
+                makers.log(SIZE), index=5)
+    yield Scene('older.fork', 'append-only', 'after 300 entries, 200 others', makers.log(200, 100), [CHECKPOINT],
+                makers.log(SIZE), index=5)
 
 
 def cosignatures(makers):
@@ -210,7 +228,8 @@ def cosignatures(makers):
              'log': ('unknown-keys', key.cosigned(content, TIME))}
     for name, (clause, line) in lines.items():
         note = content + b'\n' + key.line(content) + line
-        yield Scene(f'cosigned.{name}', clause, f"without the witness's cosignature ({name})", {**log, CHECKPOINT: note}, [CHECKPOINT],
+        yield Scene(f'cosigned.{name}', clause, f"without the witness's cosignature ({name})",
+                    {**log, CHECKPOINT: note}, [CHECKPOINT],
                     needs='{witness}')
 
 

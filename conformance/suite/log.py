@@ -1,5 +1,5 @@
-"""Rows on a log: what it serves is read as a stranger reads it, and compared with itself (C2SP tlog-tiles, tlog-checkpoint,
-signed-note; RFC 6962).
+"""Rows on a log: what it serves is read as a stranger reads it, and compared with itself (C2SP tlog-tiles,
+tlog-checkpoint, signed-note; RFC 6962).
 """
 import concurrent.futures
 
@@ -25,8 +25,8 @@ class Head:
 
 
 class Tree:
-    """The tiles and bundles of a log at a size. Each resource is asked for once, with the full one in place of a partial one
-    that isn't there."""
+    """The tiles and bundles of a log at a size. Each resource is asked for once, with the full one in place of a
+    partial one that isn't there."""
 
     def __init__(self, url, size):
         self.url, self.size, self.kept = url, size, {}
@@ -84,7 +84,8 @@ class Tree:
 
 def rows_of_key(report, key):
     want = key_id(key.name, key.kind, key.public)
-    report.row('key.identifier', 'verifier-key', 'the identifier of VKEY is that of its name, type and key', want == key.id, want.hex())
+    report.row('key.identifier', 'verifier-key', 'the identifier of VKEY is that of its name, type and key',
+               want == key.id, want.hex())
 
 
 def checkpoint(report, url, key):
@@ -94,18 +95,23 @@ def checkpoint(report, url, key):
     report.row('checkpoint.served', 'checkpoint', 'GET checkpoint is answered 200', got.status == 200, got)
     report.row('checkpoint.type', 'checkpoint-type', 'as text/plain; charset=utf-8', got.kind == TEXT, got)
     kept = web.lasts(got)
-    report.row('checkpoint.cache', 'checkpoint-cache', f'to be kept for at most {FEW} seconds', kept is not None and kept <= FEW,
-               got.fields.get('cache-control', 'no Cache-Control'))
-    report.row('checkpoint.coding', 'coding', 'and not encoded', got.fields.get('content-encoding', 'identity') == 'identity', got)
+    report.row('checkpoint.cache', 'checkpoint-cache', f'to be kept for at most {FEW} seconds',
+               kept is not None and kept <= FEW, got.fields.get('cache-control', 'no Cache-Control'))
+    report.row('checkpoint.coding', 'coding', 'and not encoded',
+               got.fields.get('content-encoding', 'identity') == 'identity', got)
     note = note_in(body)
     report.row('checkpoint.note', 'note', 'it is a signed note', note, body)
-    report.row('checkpoint.signed', 'verified', 'a valid line of VKEY, and no wrong one', note and is_signed(note, key), body)
+    report.row('checkpoint.signed', 'verified', 'a valid line of VKEY, and no wrong one',
+               note and is_signed(note, key), body)
     content = note[0] if note else ''
     found = checkpoint_in(content)
-    is_one = report.row('checkpoint.text', 'note-text', 'its text is a checkpoint', isinstance(found, tuple), found, content)
+    is_one = report.row('checkpoint.text', 'note-text', 'its text is a checkpoint', isinstance(found, tuple), found,
+                        content)
     head = Head(content) if is_one else None
-    report.row('checkpoint.origin', 'key-name', "the key's name is the origin", head and head.origin == key.name, content)
-    report.row('checkpoint.extensions', 'no-extensions', 'it has no extension lines', head and not head.has_more, content)
+    report.row('checkpoint.origin', 'key-name', "the key's name is the origin", head and head.origin == key.name,
+               content)
+    report.row('checkpoint.extensions', 'no-extensions', 'it has no extension lines', head and not head.has_more,
+               content)
     return head if head and is_signed(note, key) else None
 
 
@@ -126,8 +132,10 @@ def rows_of_answers(report, tree, kind, places):
     each(report, f'{kind}s.partial', 'partial', f'each partial {kind} of the checkpoint is answered 200',
          [seen for seen in part if seen[1].status != 200], part)
     there = [seen for seen in answers if seen[1].status == 200]
-    each(report, f'{kind}s.type', f'{kind}-type', f'as {OCTETS}', [seen for seen in there if seen[1].kind != OCTETS], there)
-    kept = [(path, got.fields.get('cache-control', 'no Cache-Control')) for path, got in there if (web.lasts(got) or 0) < LONG]
+    each(report, f'{kind}s.type', f'{kind}-type', f'as {OCTETS}', [seen for seen in there if seen[1].kind != OCTETS],
+         there)
+    kept = [(path, got.fields.get('cache-control', 'no Cache-Control'))
+            for path, got in there if (web.lasts(got) or 0) < LONG]
     each(report, f'{kind}s.cache', f'{kind}-cache', 'to be kept for a day and longer', kept, there)
 
 
@@ -165,16 +173,19 @@ def rows_of_bundles(report, tree, places):
     each(report, 'bundles.leaves', 'leaf', 'the hashes of its entries are in the tile', wrong, lists)
 
 
-# Paths at which nothing is, of any log: spelled otherwise than they are to be, and with a width that no partial tile has.
-SPELLED = ['tile/0/0', 'tile/0/00', 'tile/0/0000', 'tile/00/000', 'tile/0/x000/000', 'tile/-1/000', 'tile/0/-01', 'tile/entries/0',
-           'tile/entries/x000/000', 'tile/0/000.p/01', 'tile/0/000.p/', 'tile/64/000', 'tile//000', 'tile/0/']
+# Paths at which nothing is, of any log: spelled otherwise than they are to be, and with a width that no partial tile
+# has.
+SPELLED = ['tile/0/0', 'tile/0/00', 'tile/0/0000', 'tile/00/000', 'tile/0/x000/000', 'tile/-1/000', 'tile/0/-01',
+           'tile/entries/0', 'tile/entries/x000/000', 'tile/0/000.p/01', 'tile/0/000.p/', 'tile/64/000', 'tile//000',
+           'tile/0/']
 WIDTHS = ['tile/0/000.p/0', 'tile/0/000.p/256', 'tile/0/000.p/257', 'tile/entries/000.p/0', 'tile/entries/000.p/256']
 
 
 def rows_of_nothing(report, url, size):
     """Where nothing is, nothing is served."""
     beyond = (size >> 8) + (1 << 40)
-    far = [path_of(0, beyond), path_of(None, beyond), path_of(0, beyond, 3), path_of(5, (size >> 48) + 1), 'tile/x', 'tile/nowhere/000']
+    far = [path_of(0, beyond), path_of(None, beyond), path_of(0, beyond, 3), path_of(5, (size >> 48) + 1), 'tile/x',
+           'tile/nowhere/000']
     answers = {path: web.ask(url, path) for path in [*far, *SPELLED, *WIDTHS]}
     each(report, 'nothing.beyond', 'tile', 'beyond the log no tile and no bundle is served',
          [(path, answers[path]) for path in far if answers[path].status == 200], far)
@@ -184,8 +195,9 @@ def rows_of_nothing(report, url, size):
          [(path, answers[path]) for path in SPELLED if answers[path].status not in GONE], SPELLED)
     each(report, 'nothing.width', 'tile-path', 'so is a partial one of width 0, or of 256 and more',
          [(path, answers[path]) for path in WIDTHS if answers[path].status not in GONE], WIDTHS)
-    got = web.ask(url, 'checkpoint', method='DELETE')
-    report.row('nothing.method', 'method', 'DELETE is answered 405, with Allow', got.status == 405 and 'allow' in got.fields, got, got.fields)
+    got = web.ask(url, 'checkpoint', b'')
+    report.row('nothing.method', 'method', 'POST is answered 405, with Allow',
+               got.status == 405 and 'allow' in got.fields, got, got.fields)
 
 
 def rows_again(report, tree):

@@ -22,7 +22,8 @@ def checkpoint(origin, size, root, *extensions):
 def malformed(origin, size, root):
     """Texts that are nearly a checkpoint's, by what is wrong."""
     top = text(root)
-    lines = {'size-zeros': (origin, f'0{size}', top), 'size-sign': (origin, f'+{size}', top), 'size-space': (origin, f'{size} ', top),
+    lines = {'size-zeros': (origin, f'0{size}', top), 'size-sign': (origin, f'+{size}', top),
+             'size-space': (origin, f'{size} ', top),
              'size-hexadecimal': (origin, f'0x{size:x}', top), 'size-negative': (origin, f'-{size}', top),
              'size-missing': (origin, top), 'root-of-31': (origin, f'{size}', text(root[:31])),
              'root-of-33': (origin, f'{size}', text(root + b'x')), 'root-unpadded': (origin, f'{size}', top[:-1]),

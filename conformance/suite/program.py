@@ -12,7 +12,8 @@ def text_of(word):
 
 def main(suite, words, run):
     """Reads the command line, runs the rows, and returns the exit status."""
-    words.add_argument('--only', default='*', metavar='PATTERN', help='report the rows whose names match (a shell pattern)')
+    words.add_argument('--only', default='*', metavar='PATTERN',
+                       help='report the rows whose names match (a shell pattern)')
     words.add_argument('--junit', metavar='FILE', help="write JUnit's XML there, too")
     given = words.parse_args()
     report = Report(suite, given.only)

@@ -46,7 +46,7 @@ class Report:
         note = ' # TODO a SHOULD' if ending == FAILED and clause.level == 'SHOULD' else note
         self.tell(f'{"not ok" if ending == FAILED else "ok"} {len(self.rows)} - {name}: {what}{note}')
         if ending == FAILED:
-            self.tell(f'  ---\n  level: {clause.level}\n  clause: {clause.specification}, "{clause.section}": {clause.says}')
+            self.tell(f'  ---\n  level: {clause.level}\n  clause: {clause}')
             for part in seen:
                 self.tell(f'  seen: {shown(part)}')
             self.tell('  ...')
@@ -63,9 +63,10 @@ class Report:
         """A line for each clause with its rows, and one for each level."""
         for clause in CLAUSES.values():
             endings = [ending for _, of, _, ending, _ in self.rows if of == clause]
-            counts = [f'{endings.count(ending)} {ending}' for ending in (PASSED, FAILED, SKIPPED) if ending in endings]
+            counts = [f'{endings.count(ending)} {ending}' for ending in (PASSED, FAILED,
+                                                                         SKIPPED) if ending in endings]
             if endings:
-                self.tell(f'# {clause.level:<6} {clause.specification}, "{clause.section}": {clause.says}: {", ".join(counts)}')
+                self.tell(f'# {clause.level:<6} {clause}: {", ".join(counts)}')
         for level in ('MUST', 'SHOULD'):
             counts = ', '.join(f'{self.count(level, ending)} {ending}' for ending in (PASSED, FAILED, SKIPPED))
             self.tell(f'# {level}: {counts}')

@@ -47,7 +47,8 @@ def whole(body, path='checkpoint', status=None, more=0, **others):
     """An answer with a body, or 404 if there is none; its length says `more`."""
     kind = 'text/plain; charset=utf-8' if path == 'checkpoint' else 'application/octet-stream'
     status = status or ('404 Not Found' if body is None else '200 OK')
-    return [head(status, f'Content-Type: {kind}', f'Content-Length: {len(body or b"") + more}', **others), body or b'']
+    return [head(status, f'Content-Type: {kind}', f'Content-Length: {len(body or b"") + more}', **others),
+            body or b'']
 
 
 def chunks(body, end=b'0\r\n\r\n'):

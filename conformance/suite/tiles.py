@@ -38,8 +38,8 @@ def path_of(level, index, width=256):
 
 
 def parts(size):
-    """The tiles and bundles of a log of `size` entries, in the order of a listing: of each its path, its level (None of a
-    bundle), and where in its level it begins and ends."""
+    """The tiles and bundles of a log of `size` entries, in the order of a listing: of each its path, its level (None
+    of a bundle), and where in its level it begins and ends."""
     levels, count = [], size
     while count:
         levels.append((len(levels), count))

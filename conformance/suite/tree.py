@@ -69,8 +69,8 @@ def growth(leaves, old, is_whole=True):
 
 
 class Endless:
-    """A list of entries without an end: the first are given, and each behind them is `rest`. Its roots and proofs are those of
-    lists, at sizes that no list in memory has."""
+    """A list of entries without an end: the first are given, and each behind them is `rest`. Its roots and proofs are
+    those of lists, at sizes that no list in memory has."""
 
     def __init__(self, entries, rest):
         self.leaves, self.rest, self.known = [leaf(entry) for entry in entries], leaf(rest), {}

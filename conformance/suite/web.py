@@ -10,8 +10,8 @@ MOST = 1 << 25
 
 
 class Answer(collections.namedtuple('Answer', 'status fields body')):
-    """An answer: its status, its fields by their names in lower case, and its body. A status of 0 is of none, and the body
-    then says why."""
+    """An answer: its status, its fields by their names in lower case, and its body. A status of 0 is of none, and the
+    body then says why."""
 
     @property
     def kind(self):

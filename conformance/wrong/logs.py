@@ -100,7 +100,8 @@ class Early(Log):
     """Shows a checkpoint before its partial tiles."""
 
     def part(self, level, index, there, width):
-        return None if level == 0 and width < 256 and width == len(there) else super().part(level, index, there, width)
+        return None if level == 0 and width < 256 and width == len(there) else super().part(level, index, there,
+                                                                                            width)
 
 
 class Page(Log):
@@ -166,6 +167,7 @@ class Prunes(Log):
 
 
 # Each mistake, and the row that is for it.
-MISTAKES = [(PartialGrows, 'grown.same'), (Wide, 'bundles.entries'), (Early, 'tiles.partial'), (Page, 'nothing.beyond'),
+MISTAKES = [(PartialGrows, 'grown.same'), (Wide, 'bundles.entries'), (Early, 'tiles.partial'),
+            (Page, 'nothing.beyond'),
             (Flat, 'tiles.served'), (Octets, 'checkpoint.type'), (Rewrites, 'grown.begins'), (TileHash, 'tiles.over'),
             (NoPrefix, 'bundles.leaves'), (Doubled, 'tiles.root'), (Prunes, 'grown.gone')]

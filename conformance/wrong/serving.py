@@ -25,7 +25,7 @@ class Handler(http.server.BaseHTTPRequestHandler):
         self.end_headers()
         self.wfile.write(content)
 
-    do_GET = do_POST = do_DELETE = respond
+    do_GET = do_POST = respond
 
 
 class Server(http.server.ThreadingHTTPServer):

@@ -201,7 +201,8 @@ class AnyNumber(Witness):
 
 
 # Each mistake, and the row that is for it.
-MISTAKES = [(Smaller, 'old.smaller'), (SameSize, 'same.other'), (UnknownKey, 'untrusted.stranger'), (AnyOld, 'fork.zero'),
+MISTAKES = [(Smaller, 'old.smaller'), (SameSize, 'same.other'), (UnknownKey, 'untrusted.stranger'),
+            (AnyOld, 'fork.zero'),
             (Race, 'race.forks'), (NoProof, 'proof.none'), (LongProof, 'proof.long'), (Milliseconds, 'first.time'),
             (PlainText, 'first.message'), (NoteKey, 'first.bytes'), (PlainConflict, 'old.replay-told'),
             (Float, f'sizes.{2 ** 53 + 1}-told'), (Rebuilt, 'extensions.signed'), (Prefix, 'unknown.longer'),

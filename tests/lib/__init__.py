@@ -1,5 +1,5 @@
-"""What the scripts of tests/ share; a script of this folder that can be run by itself says so in its head. Trees, keys, notes
-and tiles are those of conformance/suite.
+"""What the scripts of tests/ share; a script of this folder that can be run by itself says so in its head. Trees,
+keys, notes and tiles are those of conformance/suite.
 """
 import os
 import sys

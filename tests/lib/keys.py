@@ -1,6 +1,6 @@
-"""Checkpoints, notes and keys, written after the standards (C2SP signed-note, tlog-checkpoint and tlog-cosignature; RFC
-8032) with nothing of the program's own: demonstration keys by HMAC, and keys that a seed makes (of conformance/suite).
-"""
+"""Checkpoints, notes and keys, written after the standards (C2SP signed-note, tlog-checkpoint and tlog-cosignature;
+RFC 8032) with nothing of the program's own: demonstration keys by HMAC, and keys that a seed makes (of
+conformance/suite). """
 import hmac
 
 from suite import notes

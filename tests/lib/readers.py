@@ -1,12 +1,12 @@
-"""Readers of texts and bytes, written after the standards (C2SP signed-note, tlog-checkpoint, tlog-tiles and tlog-witness;
-RFC 8032, 9112 and 9162), with nothing of the program's own: what these say is due where the program is given such bytes.
-What isn't such a text is None, or a fault's name.
-"""
+"""Readers of texts and bytes, written after the standards (C2SP signed-note, tlog-checkpoint, tlog-tiles and
+tlog-witness; RFC 8032, 9112 and 9162), with nothing of the program's own: what these say is due where the program is
+given such bytes. What isn't such a text is None, or a fault's name. """
 import re
 
 from suite.keys import unpacked
 from suite.notes import (  # noqa: F401
-    CONTROL, DIGITS, NAME, bytes_in, checkpoint_in, decoded, hash_in, hashes_in, note_in, number, request_in, signature_lines)
+    CONTROL, DIGITS, NAME, bytes_in, checkpoint_in, decoded, hash_in, hashes_in, note_in, number, request_in,
+                         signature_lines)
 
 from .keys import ORIGIN, SeedKey, sum_of
 from .tree import grows, leaf, node, root, sha
@@ -21,8 +21,8 @@ PATH = re.compile(r'tile/(entries|[0-7])/((?:x[0-9]{3}/){0,5})([0-9]{3})(?:\.p/(
 
 
 def opened(note, keys):
-    """The places of the lines that count of a note that opens under keys, and of those of no key; or the fault. A key is a
-    name, an identifier, and what it says of a text and a signature."""
+    """The places of the lines that count of a note that opens under keys, and of those of no key; or the fault. A key
+    is a name, an identifier, and what it says of a text and a signature."""
     count, unknown, seen = [], [], set()
     for place, (name, id, _, mark) in enumerate(note[1]):
         known = [accepts for key, key_id, accepts in keys if (key, key_id) == (name, id)]
@@ -154,8 +154,8 @@ def link_in(line):
 
 
 def first_refused(data):
-    """The number that a witness of the log names of saved links: of the first line that is none; else of the first origin
-    that isn't the log's, in the order of their first lines; else of the first link that doesn't follow."""
+    """The number that a witness of the log names of saved links: of the first line that is none; else of the first
+    origin that isn't the log's, in the order of their first lines; else of the first link that doesn't follow."""
     *lines, last = data.split(b'\n')
     links = [link_in(line) for line in lines]
     if last or None in links:
