@@ -1,5 +1,5 @@
--- Reading a policy: its lines, one after another (C2SP tlog-policy). Each line adds to what the lines before it say, or is
--- refused.
+-- Reading a policy: its lines, one after another (C2SP tlog-policy). Each line adds to what the lines before it say,
+-- or is refused.
 use Rattle.std.specs.Prelude.{◌≡◌, ℕ, ◌+◌, ◌⊎◌, ◌||◌, ◌==◌, Bool, true, false, List, [], ◌∷◌, ◌++◌, length, codes, bytes_eq, nat_lt, is_some, position, slice_index, MatchBool, MatchResult, MatchOption, if◌then◌else◌, Option, None, Some, Result, Ok, Err}
 use Rattle.std.specs.List.{list_any}
 use Rattle.std.specs.Option.{option_map, option_map_or, option_or}

@@ -1,5 +1,5 @@
--- When a set of witnesses satisfies a policy (C2SP tlog-policy). The set is a list that says of each witness, by its place,
--- whether it is in it.
+-- When a set of witnesses satisfies a policy (C2SP tlog-policy). The set is a list that says of each witness, by its
+-- place, whether it is in it.
 use Rattle.std.specs.Prelude.{Bool, true, false, List, [], ◌∷◌, ◌++◌, nat_le, count_by, slice_index_or}
 use Rattle.std.specs.List.{fold}
 use Rattle.std.specs.Option.{option_map_or}

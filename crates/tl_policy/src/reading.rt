@@ -43,8 +43,8 @@ fn end_draft<'t, A: Allocator>(draft: Draft<'t, A>) -> Result<Policy<'t, A>, Pol
 /// The policy of a text: lines of words, between spaces and tabs. Empty lines, and those whose first word begins with
 /// `#`, say nothing. The others are `log VKEY [URL]`, one or more; `witness NAME VKEY [URL]`; `group NAME any|all|K
 /// MEMBER..` over witnesses and groups of earlier lines; `quorum NAME|none`, one (C2SP tlog-policy). No name and no
-/// public key comes twice, and a member stands in one group. The first line that is wrong decides. `global` is what keys
-/// take memory from.
+/// public key comes twice, and a member stands in one group. The first line that is wrong decides. `global` is what
+/// keys take memory from.
 pub fn parse_policy<A: Allocator + Copy>(
     alloc: A,
     global: Global,
