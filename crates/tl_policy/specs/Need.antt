@@ -1,4 +1,4 @@
--- So many of given witnesses, as a policy: one group of them all.
+-- This many of given witnesses, as a policy: one group of them all.
 use Rattle.std.specs.Prelude.{ℕ, List, [], ◌∷◌, map, codes, Some}
 use Rattle.std.specs.List.{enumerate_from}
 use Rattle.tl_policy.specs.declared.policy.Member.TheVariants.{Witness, Group}

@@ -47,8 +47,8 @@ fn first_time<A: Allocator + Copy>(
 }
 
 impl<'t, A: Allocator + Copy> Policy<'t, A> {
-    /// The time of each witness's first cosignature of a checkpoint's text among these lines, or none if no line is one
-    /// (C2SP tlog-cosignature). It fails only if memory runs out.
+    /// The time of each witness's first cosignature of a checkpoint's text among these lines, or none if no line is
+    /// one (C2SP tlog-cosignature). It fails only if memory runs out.
     pub fn cosigned_by(
         &self,
         alloc: A,

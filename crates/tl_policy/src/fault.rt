@@ -5,8 +5,8 @@ ghost use Rattle.tl_policy.specs.declared.fault.PolicyFault.TheVariants.{OutOfMe
 
 use std::alloc::{AllocError, AllocFailed};
 
-/// Why a text is no policy's. Lines are counted from 1; the first line that is wrong decides, and in it what stands
-/// first here.
+/// Why a text is no policy's. Lines are counted from 1. The first line that is wrong decides, and in it what stands
+/// first here; members are looked at one by one, and the name of a second quorum isn't.
 #[derive(Copy)]
 pub enum PolicyFault {
     /// The line begins with another word, or has too few words or too many.

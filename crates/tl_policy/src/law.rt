@@ -12,8 +12,8 @@ pub fn more_witnesses_satisfy()
         → is_satisfied set p ≡ true → is_satisfied more p ≡ true }
 {}
 
-/// This many of given witnesses are one group of them all with that threshold: it is satisfied exactly if at least so
-/// many of them are in the set.
+/// This many of given witnesses are one group of them all with that threshold: it is satisfied exactly if at least
+/// that many of them are in the set.
 pub fn need_is_a_policy()
     ensures { (count : ℕ) (logs : List LogTerm) (witnesses : List WitnessTerm) (set : List Bool)
         → length set ≡ length witnesses → is_satisfied set (need_terms count logs witnesses)

@@ -45,9 +45,9 @@ fn is_group_satisfied<A: Allocator>(
 }
 
 impl<'t, A: Allocator> Policy<'t, A> {
-    /// Whether a set of witnesses satisfies the quorum: `set` says of each witness, by its place, whether it is in it.
-    /// A member is satisfied if it is a witness of the set, or a group of which as many members are as its threshold
-    /// says (C2SP tlog-policy). If the quorum is none, any set does.
+    /// Whether a set of witnesses satisfies the quorum: `set` says of each witness, by its place, whether it is in
+    /// it. A member is satisfied if it is a witness of the set, or a group of which as many members are as its
+    /// threshold says (C2SP tlog-policy). If the quorum is none, any set does.
     pub fn is_satisfied(&self, set: &[bool]) -> bool
         ensures { result ≡ is_satisfied set.now (terms_of self.now) }
     {
