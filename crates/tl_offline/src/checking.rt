@@ -19,6 +19,8 @@ pub enum EntryFault {
     NotIncluded,
 }
 
+impl Error for EntryFault {}
+
 impl Display for EntryFault {
     fn fmt<W: fmt::Write>(&self, f: &mut Formatter<W>) -> fmt::Result {
         f.write_str(match self {
@@ -27,8 +29,6 @@ impl Display for EntryFault {
         })
     }
 }
-
-impl Error for EntryFault {}
 
 /// Reports whether the hashes of a proof lead from a leaf hash, at the proof's index, to the root of `size` entries
 /// (RFC 6962, section 2.1.1). Size and root are those of the checkpoint, once its note opened. The entry is then at
