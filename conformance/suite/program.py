@@ -1,13 +1,23 @@
 """What the commands of the three programs share."""
+import sys
+
+from .keys import VerifierKey
 from .report import Report
 
 
-def text_of(word):
-    """The text of an option: itself, or the contents of a file if it begins with `@`."""
-    if not word.startswith('@'):
-        return word
-    with open(word[1:], encoding='utf-8') as file:
-        return file.read().strip()
+def contents(path):
+    """The text of a file; a report and status 2 if it can't be read."""
+    try:
+        with open(path, encoding='utf-8') as file:
+            return file.read().strip()
+    except OSError as fault:
+        print(f'{path}: {fault.strerror}', file=sys.stderr)
+        sys.exit(2)
+
+
+def verifier(word):
+    """The verifier key of an option: of its text, or of a file if it begins with `@`."""
+    return VerifierKey(contents(word[1:]) if word.startswith('@') else word)
 
 
 def main(suite, words, run):

@@ -122,7 +122,7 @@ class Race(Witness):
         return contextlib.nullcontext()
 
     def take(self, size, root, content):
-        time.sleep(0.02)
+        time.sleep(0.05)
         return super().take(size, root, content)
 
 

@@ -6,7 +6,8 @@ use Rattle.tl_hash.specs.Bytes.{Bytes, IsHash}
 use Rattle.tl_text.specs.Text.{line, number_text, base64_text, IsSize}
 use Rattle.tl_offline.specs.declared.proof.OfflineProof.{OfflineProof}
 
--- what a proof says: data without a meaning of their own, the entry's index, the inclusion proof, the signed checkpoint
+-- what a proof says: data without a meaning of their own, the entry's index, the inclusion proof, the signed
+-- checkpoint
 pub record TlogProof : Type 0 where
   pub extra : Option Bytes
   pub index : ℕ

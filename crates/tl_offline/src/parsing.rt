@@ -166,8 +166,8 @@ fn list_of<A: Allocator>(alloc: A, hashes: &[Hash]) -> Result<Vec<Hash, A>, Allo
 
 /// Returns the proof that a text is (C2SP tlog-proof), or the first line that is wrong. The text is read to its end
 /// before memory is asked for, so `OutOfMemory` is of a proof, one with hashes or extra data. A line `extra ` with
-/// nothing behind it has extra data of no bytes, since base64 of no bytes is the empty text (RFC 4648, section 10). The
-/// note isn't read: its signatures count under keys, so whoever opens it refuses what is no note.
+/// nothing behind it has extra data of no bytes, since base64 of no bytes is the empty text (RFC 4648, section 10).
+/// The note isn't read: its signatures count under keys, so whoever opens it refuses what is no note.
 pub fn parse_proof<A: Allocator + Copy>(
     alloc: A,
     text: &str,
