@@ -66,9 +66,9 @@ unseen_feed answers lacks has fails still keeps policy fault o (inl (missing, fa
 unseen_feed answers lacks has fails still keeps policy fault o (inr (two, are, inl (refused, left))) = inr (two, are, inl (refused, tt))
 unseen_feed answers lacks has fails still keeps policy fault o (inr (two, are, inr f)) =
     inr (two, are, inr (record { grown = f.grown; why = why_unseen f.why; fair = f.fair })) where
-  why_unseen : (fails fault × IsUnwritten o) ⊎ (keeps two.note × BreaksOffFeeding policy two fault o) → (fails fault × IsUnwritten o) ⊎ (Unit {0} × BreaksOffFeeding policy two fault o)
-  why_unseen (inl first) = inl first
-  why_unseen (inr (kept, broken)) = inr (tt, broken)
+      why_unseen : (fails fault × IsUnwritten o) ⊎ (keeps two.note × BreaksOffFeeding policy two fault o) → (fails fault × IsUnwritten o) ⊎ (Unit {0} × BreaksOffFeeding policy two fault o)
+      why_unseen (inl first) = inl first
+      why_unseen (inr (kept, broken)) = inr (tt, broken)
 
 -- the grounds of a run without a file of a state, and with one
 pub feed_no_state : {A : Type 0} (state : Option A) (answers : Resource → Bytes → Type 0) (lacks : Resource → Type 0) (still : Type 0) (keeps : Bytes → Type 0) (policy : Policy) (fault : FetchFault) (o : Passage) → state ≡ None
