@@ -8,31 +8,33 @@ use Rattle.tl_fetch.specs.declared.fault.FetchFault.{FetchFault}
 use Rattle.tl_fetch.specs.declared.fault.FetchFault.TheVariants as fetch
 use Rattle.tl_run.specs.declared.fault.RunFault.TheVariants as run
 use Rattle.tl_tile.specs.declared.resource.Resource.{Resource}
-use Rattle.tl_source.specs.Fulls.{may_answer_front}
-use Rattle.tl_source.specs.Sources.{Origin, any_answers}
+use Rattle.tl_tile.specs.declared.resource.Resource.TheVariants.{Checkpoint}
+use Rattle.tl_source.specs.declared.lack.Lack.{Lack}
+use Rattle.tl_source.specs.Sources.{Origin}
 use Rattle.tl_fetch.specs.declared.feed.command.FeedOptions.{FeedOptions}
 use Rattle.tl_fetch.specs.Command.{IsOriginOf, IsStateFault, may_have, state_fails}
-use Rattle.tl_fetch.specs.FeedCommand.{IsAddressFault, IsFirstNoUrl, RunsFeedUnder}
+use Rattle.tl_fetch.specs.FeedCommand.{IsAddressFault, IsFirstNoUrl, RunsFeedUnder, feed_answers}
 use Rattle.tl_fetch.specs.Inner.FeedRuns.{FeedsOver}
 use Rattle.tl_fetch.specs.Inner.Naming.{Renames}
 use Rattle.tl_fetch.specs.Faults.{IsNoAccusation}
-use Rattle.tl_fetch.specs.Feeding.{HasFed, IsFedNote, IsUnfed, RefusesFeed}
-use Rattle.tl_fetch.specs.Fetching.{Grounds, grounds_of}
+use Rattle.tl_fetch.specs.Feeding.{BreaksOffFeeding, HasFed, IsFedNote, IsUnfed, RefusesFed, RefusesFeed}
+use Rattle.tl_fetch.specs.Fetching.{Grounds, grounds_of, unseen_of}
 use Rattle.tl_fetch.specs.Opening.{RefusesNote}
-use Rattle.tl_fetch.specs.Printed.{PrintedSome, PrintedWhole}
+use Rattle.tl_fetch.specs.Printed.{PrintedWhole}
 use Rattle.tl_fetch.specs.Inner.Judging.{JudgesTwo}
 use Rattle.tl_fetch.specs.Trusting.{AreTwo, IsGrown, Policy, Two, alone}
 use Rattle.tl_fetch.proofs.JudgingLemmas.{judged}
-use Rattle.tl_fetch.proofs.Passages.{GoesOn, joined, silent_some, silent_whole}
+use Rattle.tl_fetch.proofs.Passages.{GoesOn, joined, silent_both, silent_some, silent_whole}
+use Rattle.tl_fetch.proofs.RunLemmas.{told_by}
 
 -- a note with lines behind it that isn't trusted
 pub unfed : (policy : Policy) (note read lines : Bytes) (fault : FetchFault) → read ≡ note ++ lines → RefusesNote policy read fault → IsUnfed policy note fault
 unfed policy note read lines fault is refused = inl (lines, subst (λ (text : Bytes). RefusesNote policy text fault) is refused)
 
 -- a log that is refused by its two checkpoints
-pub refused_feed : (grounds : Grounds) (policy : Policy) (two : Two) (fault : FetchFault) (o : Passage) → AreTwo grounds.has (alone policy) two
-    → JudgesTwo grounds.answers grounds.lacks two fault o → RefusesFeed grounds policy fault o
-refused_feed grounds policy two fault o are refused = inr (two, are, inl (judged grounds (alone policy) two fault o are.known are.trusted refused))
+pub refused_feed : (grounds : Grounds) (policy : Policy) (two : Two) (fault : FetchFault) (o : Passage) → AreTwo grounds.has (grounds.answers Checkpoint) (alone policy) two
+    → JudgesTwo grounds.answers grounds.lacks two fault o → grounds.still → RefusesFeed grounds policy fault o
+refused_feed grounds policy two fault o are refused left = inr (two, are, inl (judged grounds (alone policy) two fault o are.known are.trusted refused, left))
 
 -- what is printed of a log that goes on, after nothing was
 pub fed_two : (has_kept : Bytes → Type 0) (policy : Policy) (two : Two) (o p : Passage) → IsGrown two.old two.new → GoesOn o p → IsUnwritten o → has_kept two.note
@@ -41,31 +43,60 @@ fed_two has_kept policy two o p grown on none kept printed =
     record { grown = grown; kept = kept; printed = silent_whole (IsFedNote policy two.note two.new) o p on none printed }
 
 -- what was begun of it, after nothing was printed
-pub unfed_two : (grounds : Grounds) (policy : Policy) (two : Two) (fault : FetchFault) (o p : Passage) → AreTwo grounds.has (alone policy) two → IsGrown two.old two.new
-    → GoesOn o p → IsUnwritten o → IsNoAccusation fault → PrintedSome (IsFedNote policy two.note two.new) p
-    → grounds.fails fault ⊎ (IsUnfed policy two.note fault ⊎ (fault ≡ fetch.Run run.Write)) → RefusesFeed grounds policy fault (joined o p)
-unfed_two grounds policy two fault o p are grown on none fair printed why =
-    inr (two, are, inr (record { grown = grown; why = why; fair = fair; printed = silent_some (IsFedNote policy two.note two.new) o p on none printed }))
+unfed_after : (grounds : Grounds) (policy : Policy) (two : Two) (fault : FetchFault) (o p : Passage) → GoesOn o p → IsUnwritten o
+    → RefusesFed grounds policy two fault p → RefusesFed grounds policy two fault (joined o p)
+unfed_after grounds policy two fault o p on none f = record { grown = f.grown; why = why_after f.why; fair = f.fair } where
+  broken_after : BreaksOffFeeding policy two fault p → BreaksOffFeeding policy two fault (joined o p)
+  broken_after (inl (unfed, still)) = inl (unfed, silent_both o p on none still)
+  broken_after (inr (write, part)) = inr (write, silent_some (IsFedNote policy two.note two.new) o p on none part)
+
+  why_after : (grounds.fails fault × IsUnwritten p) ⊎ (grounds.keeps two.note × BreaksOffFeeding policy two fault p)
+      → (grounds.fails fault × IsUnwritten (joined o p)) ⊎ (grounds.keeps two.note × BreaksOffFeeding policy two fault (joined o p))
+  why_after (inl (fails, still)) = inl (fails, silent_both o p on none still)
+  why_after (inr (kept, broken)) = inr (kept, broken_after broken)
+
+pub unfed_two : (grounds : Grounds) (policy : Policy) (two : Two) (fault : FetchFault) (o p : Passage) → AreTwo grounds.has (grounds.answers Checkpoint) (alone policy) two
+    → GoesOn o p → IsUnwritten o → RefusesFed grounds policy two fault p → RefusesFeed grounds policy fault (joined o p)
+unfed_two grounds policy two fault o p are on none refused = inr (two, are, inr (unfed_after grounds policy two fault o p on none refused))
+
+-- the same, if nobody sees what the state keeps
+unseen_feed : (answers : Resource → Bytes → Type 0) (lacks : Resource → Type 0) (has : Option Bytes → Type 0) (fails : FetchFault → Type 0) (still : Type 0) (keeps : Bytes → Type 0) (policy : Policy) (fault : FetchFault) (o : Passage)
+    → RefusesFeed (grounds_of answers lacks has fails still keeps) policy fault o → RefusesFeed (unseen_of answers lacks has fails) policy fault o
+unseen_feed answers lacks has fails still keeps policy fault o (inl (missing, fair, left, none)) = inl (missing, fair, tt, none)
+unseen_feed answers lacks has fails still keeps policy fault o (inr (two, are, inl (refused, left))) = inr (two, are, inl (refused, tt))
+unseen_feed answers lacks has fails still keeps policy fault o (inr (two, are, inr f)) =
+    inr (two, are, inr (record { grown = f.grown; why = why_unseen f.why; fair = f.fair })) where
+      why_unseen : (fails fault × IsUnwritten o) ⊎ (keeps two.note × BreaksOffFeeding policy two fault o) → (fails fault × IsUnwritten o) ⊎ (Unit {0} × BreaksOffFeeding policy two fault o)
+      why_unseen (inl first) = inl first
+      why_unseen (inr (kept, broken)) = inr (tt, broken)
 
 -- the grounds of a run without a file of a state, and with one
-pub feed_no_state : {A : Type 0} (state : Option A) (answers : Resource → Bytes → Type 0) (lacks : Resource → Type 0) (policy : Policy) (fault : FetchFault) (o : Passage) → state ≡ None
-    → RefusesFeed (grounds_of answers lacks (λ note. note ≡ None) (λ f. ⊥)) policy fault o → RefusesFeed (grounds_of answers lacks (may_have state) (state_fails state)) policy fault o
-feed_no_state state answers lacks policy fault o none refused =
-    subst (λ s. RefusesFeed (grounds_of answers lacks (may_have s) (state_fails s)) policy fault o) (sym none) refused
+pub feed_no_state : {A : Type 0} (state : Option A) (answers : Resource → Bytes → Type 0) (lacks : Resource → Type 0) (still : Type 0) (keeps : Bytes → Type 0) (policy : Policy) (fault : FetchFault) (o : Passage) → state ≡ None
+    → RefusesFeed (grounds_of answers lacks (λ note. note ≡ None) (λ f. ⊥) still keeps) policy fault o → RefusesFeed (unseen_of answers lacks (may_have state) (state_fails state)) policy fault o
+feed_no_state state answers lacks still keeps policy fault o none refused =
+    subst (λ s. RefusesFeed (unseen_of answers lacks (may_have s) (state_fails s)) policy fault o) (sym none)
+    (unseen_feed answers lacks (λ note. note ≡ None) (λ f. ⊥) still keeps policy fault o refused)
 
-pub feed_some_state : {A : Type 0} (state : Option A) (path : A) (answers : Resource → Bytes → Type 0) (lacks : Resource → Type 0) (policy : Policy) (fault : FetchFault) (o : Passage) → state ≡ Some path
-    → RefusesFeed (grounds_of answers lacks (λ note. Unit {0}) IsStateFault) policy fault o → RefusesFeed (grounds_of answers lacks (may_have state) (state_fails state)) policy fault o
-feed_some_state state path answers lacks policy fault o some refused =
-    subst (λ s. RefusesFeed (grounds_of answers lacks (may_have s) (state_fails s)) policy fault o) (sym some) refused
+pub feed_some_state : {A : Type 0} (state : Option A) (path : A) (answers : Resource → Bytes → Type 0) (lacks : Resource → Type 0) (still : Type 0) (keeps : Bytes → Type 0) (policy : Policy) (fault : FetchFault) (o : Passage) → state ≡ Some path
+    → RefusesFeed (grounds_of answers lacks (λ note. Unit {0}) IsStateFault still keeps) policy fault o → RefusesFeed (unseen_of answers lacks (may_have state) (state_fails state)) policy fault o
+feed_some_state state path answers lacks still keeps policy fault o some refused =
+    subst (λ s. RefusesFeed (unseen_of answers lacks (may_have s) (state_fails s)) policy fault o) (sym some)
+    (unseen_feed answers lacks (λ note. Unit {0}) IsStateFault still keeps policy fault o refused)
+
+-- a file fails before there is trust, and nothing was printed
+pub feed_no_file : {A : Type 0} (state : Option A) (path : A) (answers : Resource → Bytes → Type 0) (lacks : Resource → Type 0) (policy : Policy) (fault : FetchFault) (o : Passage) → state ≡ Some path
+    → IsStateFault fault → IsNoAccusation fault → IsUnwritten o → RefusesFeed (unseen_of answers lacks (may_have state) (state_fails state)) policy fault o
+feed_no_file state path answers lacks policy fault o some fails fair none =
+    inl (inl (inl (subst (λ s. state_fails s fault) (sym some) fails)), fair, tt, none)
 
 -- the end of a run over a folder or a host, whose fault names what was lacked
-pub feed_renamed : (policy : Policy) (options : FeedOptions) (origin : Origin) (o : Passage) (outcome told : Result (Unit {0}) FetchFault) → IsOriginOf (string_bytes options.log.from) origin
-    → Renames outcome told → FeedsOver (may_answer_front (any_answers origin) (λ r. Unit {0})) (λ r. Unit {0}) policy options.log o outcome
+pub feed_renamed : (policy : Policy) (options : FeedOptions) (origin : Origin) (lack : Option Lack) (o : Passage) (outcome told : Result (Unit {0}) FetchFault) → IsOriginOf (string_bytes options.log.from) origin
+    → Renames outcome lack told → FeedsOver (feed_answers origin) (λ r. Unit {0}) policy options.log o outcome
     → RunsFeedUnder policy options o told
-feed_renamed policy options origin o (Ok done) (Ok again) at same runs = runs
-feed_renamed policy options origin o (Ok done) (Err other) at same runs = absurd same
-feed_renamed policy options origin o (Err fault) (Ok done) at same runs = absurd same
-feed_renamed policy options origin o (Err fault) (Err other) at same runs = inr (origin, at, (fault, same, runs))
+feed_renamed policy options origin lack o (Ok done) (Ok again) at same runs = (origin, at, runs)
+feed_renamed policy options origin lack o (Ok done) (Err other) at same runs = absurd same
+feed_renamed policy options origin lack o (Err fault) (Ok done) at same runs = absurd same
+feed_renamed policy options origin lack o (Err fault) (Err other) at same runs = inr (origin, at, (fault, told_by fault other lack same, runs))
 
 -- an address that is none, or memory that ran out before one was read: nothing was printed
 pub no_address : (policy : Policy) (options : FeedOptions) (fault : FetchFault) (o : Passage) → IsUnwritten o → IsAddressFault options fault → RunsFeedUnder policy options o (Err fault)

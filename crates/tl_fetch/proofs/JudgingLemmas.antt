@@ -58,9 +58,9 @@ pub fork_at : (answers : Resource → Bytes → Type 0) (lacks : Resource → Ty
 fork_at answers lacks smaller larger fault is refused = subst (λ (f : ClientFault). RefusesGrowth answers lacks smaller larger f) is refused
 
 pub not_compared : {X : Type 0} (answers : Resource → Bytes → Type 0) (lacks : Resource → Type 0) (smaller larger : Head) (r : Result X ClientFault) → IsFork sha256 smaller larger
-    → IfErr r (LacksProof answers lacks smaller.size larger) → IfErr r (RefusesComparison answers lacks smaller larger)
-not_compared answers lacks smaller larger (Ok x) fork refused = tt
-not_compared answers lacks smaller larger (Err why) fork refused = inr (fork, refused)
+    → (smaller.size ≡ larger.size → ⊥) → IfErr r (LacksProof answers lacks smaller.size larger) → IfErr r (RefusesComparison answers lacks smaller larger)
+not_compared answers lacks smaller larger (Ok x) fork apart refused = tt
+not_compared answers lacks smaller larger (Err why) fork apart refused = inr (fork, apart, refused)
 
 -- ---- by checkpoints of these sizes and roots
 

@@ -170,8 +170,10 @@ printing_none head from b f within =
     record { printed = ([], lines_none head from, record { appended = appends_none b; steady = refl }); within = within }
 
 -- a bundle that isn't read is why not all is printed
-pub refuses_all : (answers : Resource → Bytes → Type 0) (lacks : Resource → Type 0) (head : Head) (from bundle : ℕ) (fault : FetchFault)
-    → FailsPrinting (RefusesBundle answers lacks head bundle) fault → RefusesAll answers lacks head from fault
-refuses_all answers lacks head from bundle fault (inl write) = inr (inl write)
-refuses_all answers lacks head from bundle fault (inr (inl memory)) = inr (inr (inl memory))
-refuses_all answers lacks head from bundle fault (inr (inr (why, so, told))) = inr (inr (inr (why, (bundle, so), told)))
+pub refuses_all : (answers : Resource → Bytes → Type 0) (lacks : Resource → Type 0) (head : Head) (from next : ℕ) (fault : FetchFault) (o p : Passage) → IsPrinting head from next o → next < head.size
+    → FailsPrinting (RefusesBundle answers lacks head (next / 256)) fault p → RefusesAll answers lacks head from fault (joined o p)
+refuses_all answers lacks head from next fault o p so below (inl write) = inr (inl write)
+refuses_all answers lacks head from next fault o p so below (inr (inl memory)) = inr (inr (inl memory))
+refuses_all answers lacks head from next fault o p so below (inr (inr (why, refused, told))) =
+    let count = so.printed.1.1.count in
+    inr (inr (inr (why, (next / 256, record { within = omega (arith, below); later = omega (arith, count) }, refused), told)))

@@ -3,7 +3,7 @@ use Rattle.std.proofs.Common.{◌≡◌, ◌++◌, take, refl, sym, ap, subst, �
 use Rattle.std.proofs.KnownBytes.{Keeps-trans}
 use Rattle.std.specs.Io.KnownBytes.{Appends, Keeps}
 use Rattle.tl_hash.specs.Bytes.{Bytes}
-use Rattle.tl_device.specs.Device.{Passage, IsUnwritten}
+use Rattle.tl_device.specs.Device.{Passage, IsUnwritten, WrotePart, WroteWhole}
 use Rattle.tl_fetch.specs.Printed.{PrintedSome, PrintedWhole}
 
 -- both together
@@ -59,3 +59,10 @@ still b f = (keeps_same b, refl)
 pub on_err : {X E P : Type 0} (r : Result X E) → P → OnErr r P
 on_err (Ok done) p = tt
 on_err (Err fault) p = p
+
+-- a text that was written whole, or in part
+pub whole_of : (Is : Bytes → Type 0) (text read : Bytes) (o : Passage) → Is text → read ≡ text → WroteWhole o read → PrintedWhole Is o
+whole_of Is text read o is same whole = (text, is, subst (λ (t : Bytes). WroteWhole o t) same whole)
+
+pub part_of : (Is : Bytes → Type 0) (text read : Bytes) (o : Passage) → Is text → read ≡ text → WrotePart o read → PrintedSome Is o
+part_of Is text read o is same part = inr (text, is, part.count, subst (λ (t : Bytes). Appends o.old o.new (take part.count t)) same part.appended)

@@ -1,14 +1,14 @@
 -- What is printed before a fault comes, and how a run ends.
-use Rattle.std.proofs.Common.{◌≡◌, ◌⊎◌, ℕ, ◌≤◌, length, string_bytes, sym, ap, subst, refl, inl, inr, Option, Some, None, Result, Ok, Err, IfErr, OnErr, OnOk}
-use Rattle.std.proofs.Math.Seq.{take-length}
-use Rattle.std.specs.Io.KnownBytes.{Appends}
+use Rattle.std.proofs.Common.{◌≡◌, ◌⊎◌, ℕ, ◌≤◌, length, string_bytes, sym, ap, subst, refl, inl, inr, Option, Some, None, Result, Ok, Err, IfErr, OnOk}
 use Rattle.tl_hash.specs.Bytes.{Bytes}
 use Rattle.tl_tile.specs.declared.resource.Resource.{Resource}
+use Rattle.tl_tile.specs.declared.resource.Resource.TheVariants.{Checkpoint}
 use Rattle.tl_device.specs.Device.{Passage, IsUnwritten}
 use Rattle.tl_client.specs.declared.fault.ClientFault.{ClientFault}
 use Rattle.tl_client.specs.declared.fault.ClientFault.TheVariants as client
 use Rattle.tl_hash.specs.declared.head.Head.{Head}
 use Rattle.tl_fetch.specs.declared.fault.FetchFault.{FetchFault}
+use Rattle.tl_fetch.specs.declared.fault.FetchFault.TheVariants as fetch
 use Rattle.tl_fetch.specs.declared.options.FetchOptions.{FetchOptions}
 use Rattle.tl_fetch.specs.declared.options.FetchRequest.{FetchRequest}
 use Rattle.tl_fetch.specs.declared.options.FetchRequest.TheVariants as wanted
@@ -17,28 +17,16 @@ use Rattle.tl_fetch.specs.Evidence.{IsEvidenceOf}
 use Rattle.tl_fetch.specs.Faults.{IsNoAccusation, after_client}
 use Rattle.tl_fetch.specs.Inner.Judging.{JudgesTwo, two_of}
 use Rattle.tl_source.specs.Caches.{may_answer_either, may_lack_both}
-use Rattle.tl_source.specs.Fulls.{may_answer_front}
+use Rattle.tl_source.specs.declared.lack.Lack.{Lack}
 use Rattle.tl_folder.specs.Limits.{most_bytes}
-use Rattle.tl_source.specs.Sources.{Origin, any_answers}
-use Rattle.tl_fetch.specs.Command.{IsOriginOf, IsStateFault, RunsUnder, cached_answers, cached_lacks, may_have, state_fails}
-use Rattle.tl_fetch.specs.Inner.Naming.{Renames, RunsOver, RunsWith}
-use Rattle.tl_fetch.specs.Fetching.{FailsGrown, Grounds, HasFetched, HasPrinted, IsMarked, RefusesFetch, RefusesGrown, RefusesTwo, Store, first_wanted, grounds_of, since}
+use Rattle.tl_source.specs.Sources.{Origin}
+use Rattle.tl_fetch.specs.Command.{IsOriginOf, IsStateFault, IsToldAs, RunsUnder, cached_answers, cached_lacks, may_have, run_answers, state_fails}
+use Rattle.tl_fetch.specs.Inner.Naming.{Renames, RunsOver, RunsWith, told_as}
+use Rattle.tl_fetch.specs.Fetching.{AreStill, BreaksOff, FailsAll, FailsGrown, Grounds, HasFetched, HasPrinted, IsMarked, RefusesFetch, RefusesGrown, RefusesTwo, Store, first_wanted, grounds_of, since, unseen_of}
 use Rattle.tl_fetch.specs.Trusting.{AreTwo, IsGrown, IsKnown, IsNoteOf, Policy, Two}
 use Rattle.tl_fetch.proofs.JudgingLemmas.{judged}
 use Rattle.tl_fetch.proofs.Passages.{GoesOn, joined, silent_both, silent_some, silent_whole}
-use Rattle.tl_fetch.specs.Printed.{FailsPrinting, IsBegun, IsWanted, PrintedSome, PrintedWhole, RefusesWanted}
-
--- all that is asked for is a beginning of it
-pub whole_begun : (origin : Bytes) (known : ℕ) (head : Head) (what : FetchRequest) (text : Bytes) → IsWanted origin known head what text → IsBegun origin known head what text
-whole_begun origin known head wanted.Head text is = is
-whole_begun origin known head (wanted.Entry index) text is = is
-whole_begun origin known head (wanted.Raw index) text is = is
-whole_begun origin known head wanted.All text is = (head.size, is)
-whole_begun origin known head (wanted.Proof index) text is = is
-
-pub some_of_whole : (origin : Bytes) (known : ℕ) (head : Head) (what : FetchRequest) (o : Passage) → PrintedWhole (IsWanted origin known head what) o → PrintedSome (IsBegun origin known head what) o
-some_of_whole origin known head what o (text, is, wrote) =
-    inr (text, whole_begun origin known head what text is, length text, subst (λ (t : Bytes). Appends o.old o.new t) (sym (take-length text)) wrote.appended)
+use Rattle.tl_fetch.specs.Printed.{FailsPrinting, IsBegun, IsBundleFrom, IsWanted, PrintedWhole, RefusesWanted}
 
 -- a check accuses nobody
 after_check : (why : ClientFault) → IsNoAccusation (after_client why)
@@ -51,32 +39,26 @@ after_check client.Shrunk = tt
 after_check client.Forked = tt
 after_check client.OutOfMemory = tt
 
-pub fair_printing : (Why : ClientFault → Type 0) (fault : FetchFault) → FailsPrinting Why fault → IsNoAccusation fault
-fair_printing Why fault (inl write) = subst IsNoAccusation (sym write) tt
-fair_printing Why fault (inr (inl memory)) = subst IsNoAccusation (sym memory) tt
-fair_printing Why fault (inr (inr (why, so, told))) = subst IsNoAccusation (sym told) (after_check why)
+pub fair_printing : (Why : ClientFault → Type 0) (fault : FetchFault) (o : Passage) → FailsPrinting Why fault o → IsNoAccusation fault
+fair_printing Why fault o (inl (write, failed)) = subst IsNoAccusation (sym write) tt
+fair_printing Why fault o (inr (inl memory)) = subst IsNoAccusation (sym memory) tt
+fair_printing Why fault o (inr (inr (why, so, told))) = subst IsNoAccusation (sym told) (after_check why)
 
-pub fair_wanted : (answers : Resource → Bytes → Type 0) (lacks : Resource → Type 0) (known : ℕ) (head : Head) (what : FetchRequest) (fault : FetchFault)
-    → RefusesWanted answers lacks known head what fault → IsNoAccusation fault
-fair_wanted answers lacks known head wanted.Head fault (inl write) = subst IsNoAccusation (sym write) tt
-fair_wanted answers lacks known head wanted.Head fault (inr memory) = subst IsNoAccusation (sym memory) tt
-fair_wanted answers lacks known head (wanted.Entry index) fault fails = fair_printing (RefusesOne answers lacks head index) fault fails
-fair_wanted answers lacks known head (wanted.Raw index) fault fails = fair_printing (RefusesOne answers lacks head index) fault fails
-fair_wanted answers lacks known head wanted.All fault (inl range) = subst IsNoAccusation (sym range.1) tt
-fair_wanted answers lacks known head wanted.All fault (inr fails) =
-    fair_printing (λ why. (bundle : ℕ) × RefusesBundle answers lacks head bundle why) fault fails
-fair_wanted answers lacks known head (wanted.Proof index) fault fails = fair_printing (RefusesProof answers lacks head index) fault fails
+pub fair_wanted : (answers : Resource → Bytes → Type 0) (lacks : Resource → Type 0) (known : ℕ) (head : Head) (what : FetchRequest) (fault : FetchFault) (o : Passage)
+    → RefusesWanted answers lacks known head what fault o → IsNoAccusation fault
+fair_wanted answers lacks known head wanted.Head fault o (inl (write, failed)) = subst IsNoAccusation (sym write) tt
+fair_wanted answers lacks known head wanted.Head fault o (inr memory) = subst IsNoAccusation (sym memory) tt
+fair_wanted answers lacks known head (wanted.Entry index) fault o fails = fair_printing (RefusesOne answers lacks head index) fault o fails
+fair_wanted answers lacks known head (wanted.Raw index) fault o fails = fair_printing (RefusesOne answers lacks head index) fault o fails
+fair_wanted answers lacks known head wanted.All fault o (inl range) = subst IsNoAccusation (sym range.1) tt
+fair_wanted answers lacks known head wanted.All fault o (inr fails) =
+    fair_printing (λ why. (bundle : ℕ) × IsBundleFrom head known bundle × RefusesBundle answers lacks head bundle why) fault o fails
+fair_wanted answers lacks known head (wanted.Proof index) fault o fails = fair_printing (RefusesProof answers lacks head index) fault o fails
 
--- the same of a whole result
-pub fair_result : {X : Type 0} (answers : Resource → Bytes → Type 0) (lacks : Resource → Type 0) (known : ℕ) (head : Head) (what : FetchRequest) (r : Result X FetchFault)
-    → IfErr r (RefusesWanted answers lacks known head what) → IfErr r IsNoAccusation
-fair_result answers lacks known head what (Ok done) fails = tt
-fair_result answers lacks known head what (Err fault) fails = fair_wanted answers lacks known head what fault fails
-
--- a log that is refused by its two checkpoints
-pub refused_two : (grounds marks : Grounds) (policy : Policy) (what : FetchRequest) (two : Two) (fault : FetchFault) (o : Passage) → AreTwo grounds.has policy two
-    → JudgesTwo grounds.answers grounds.lacks two fault o → RefusesFetch grounds marks policy what fault o
-refused_two grounds marks policy what two fault o are refused = inr (two, are, inl (judged grounds policy two fault o are.known are.trusted refused))
+-- a log that is refused by its two checkpoints, while both stores are as they were
+pub refused_two : (grounds marks : Grounds) (policy : Policy) (what : FetchRequest) (two : Two) (fault : FetchFault) (o : Passage) → AreTwo grounds.has (grounds.answers Checkpoint) policy two
+    → JudgesTwo grounds.answers grounds.lacks two fault o → AreStill grounds marks → RefusesFetch grounds marks policy what fault o
+refused_two grounds marks policy what two fault o are refused left = inr (two, are, inl (judged grounds policy two fault o are.known are.trusted refused, left))
 
 -- what is asked for, but not all entries, after the note was kept
 pub other_printed : (may_have : Option Bytes → Type 0) (has_kept : Bytes → Type 0) (policy : Policy) (two : Two) (what : FetchRequest) (r : Result (Unit {0}) FetchFault) (o : Passage)
@@ -88,11 +70,8 @@ other_printed may_have has_kept policy two (wanted.Raw index) (Ok done) o other 
 other_printed may_have has_kept policy two wanted.All (Ok done) o other printed = absurd (other refl)
 other_printed may_have has_kept policy two (wanted.Proof index) (Ok done) o other printed = printed
 
-abbrev FailsSo : Grounds → Policy → FetchRequest → Two → FetchFault → Passage → Type 0
-FailsSo grounds policy what two fault o = FailsGrown grounds grounds.fails policy what two.old.size two.new fault o
-
 other_fails : (grounds marks : Grounds) (policy : Policy) (two : Two) (what : FetchRequest) (fault : FetchFault) (o : Passage)
-    → (what ≡ wanted.All → ⊥) → FailsSo grounds policy what two fault o → RefusesGrown grounds marks policy what two fault o
+    → (what ≡ wanted.All → ⊥) → FailsGrown grounds policy what two fault o → RefusesGrown grounds marks policy what two fault o
 other_fails grounds marks policy two wanted.Head fault o other fails = fails
 other_fails grounds marks policy two (wanted.Entry index) fault o other fails = fails
 other_fails grounds marks policy two (wanted.Raw index) fault o other fails = fails
@@ -100,12 +79,9 @@ other_fails grounds marks policy two wanted.All fault o other fails = absurd (ot
 other_fails grounds marks policy two (wanted.Proof index) fault o other fails = fails
 
 pub other_refused : (grounds marks : Grounds) (policy : Policy) (two : Two) (what : FetchRequest) (r : Result (Unit {0}) FetchFault) (o : Passage)
-    → (what ≡ wanted.All → ⊥) → IfErr r IsNoAccusation → OnErr r (PrintedSome (IsBegun policy.origin two.old.size two.new what) o)
-    → IfErr r (λ fault. grounds.fails fault ⊎ RefusesWanted grounds.answers grounds.lacks two.old.size two.new what fault)
-    → IfErr r (λ fault. RefusesGrown grounds marks policy what two fault o)
-other_refused grounds marks policy two what (Ok done) o other fair part why = tt
-other_refused grounds marks policy two what (Err fault) o other fair part why =
-    other_fails grounds marks policy two what fault o other (record { why = why; fair = fair; printed = part })
+    → (what ≡ wanted.All → ⊥) → IfErr r (λ fault. FailsGrown grounds policy what two fault o) → IfErr r (λ fault. RefusesGrown grounds marks policy what two fault o)
+other_refused grounds marks policy two what (Ok done) o other fails = tt
+other_refused grounds marks policy two what (Err fault) o other fails = other_fails grounds marks policy two what fault o other fails
 
 -- ---- after nothing was printed
 
@@ -122,38 +98,65 @@ print_after may_have has_kept policy two wanted.All o p on none (last, old, mark
 print_after may_have has_kept policy two (wanted.Proof index) o p on none printed =
     silent_whole (IsWanted policy.origin two.old.size two.new (wanted.Proof index)) o p on none printed
 
-fails_after : (grounds : Grounds) (fails : FetchFault → Type 0) (policy : Policy) (what : FetchRequest) (known : ℕ) (head : Head) (fault : FetchFault) (o p : Passage) → GoesOn o p → IsUnwritten o
-    → FailsGrown grounds fails policy what known head fault p → FailsGrown grounds fails policy what known head fault (joined o p)
-fails_after grounds fails policy what known head fault o p on none f =
-    record { why = f.why; fair = f.fair; printed = silent_some (IsBegun policy.origin known head what) o p on none f.printed }
+wanted_after : (grounds : Grounds) (known : ℕ) (head : Head) (what : FetchRequest) (fault : FetchFault) (o p : Passage)
+    → RefusesWanted grounds.answers grounds.lacks known head what fault p → RefusesWanted grounds.answers grounds.lacks known head what fault (joined o p)
+wanted_after grounds known head wanted.Head fault o p f = f
+wanted_after grounds known head (wanted.Entry index) fault o p f = f
+wanted_after grounds known head (wanted.Raw index) fault o p f = f
+wanted_after grounds known head wanted.All fault o p f = f
+wanted_after grounds known head (wanted.Proof index) fault o p f = f
+
+broken_after : (grounds : Grounds) (policy : Policy) (what : FetchRequest) (known : ℕ) (two : Two) (fault : FetchFault) (o p : Passage) → GoesOn o p → IsUnwritten o
+    → BreaksOff grounds policy what known two fault p → BreaksOff grounds policy what known two fault (joined o p)
+broken_after grounds policy what known two fault o p on none (refused, part) =
+    (wanted_after grounds known two.new what fault o p refused, silent_some (IsBegun policy.origin known two.new what) o p on none part)
+
+fails_after : (grounds : Grounds) (policy : Policy) (what : FetchRequest) (two : Two) (fault : FetchFault) (o p : Passage) → GoesOn o p → IsUnwritten o
+    → FailsGrown grounds policy what two fault p → FailsGrown grounds policy what two fault (joined o p)
+fails_after grounds policy what two fault o p on none f = record { why = why_after f.why; fair = f.fair } where
+  why_after : (grounds.fails fault × IsUnwritten p) ⊎ (grounds.keeps two.note × BreaksOff grounds policy what two.old.size two fault p)
+      → (grounds.fails fault × IsUnwritten (joined o p)) ⊎ (grounds.keeps two.note × BreaksOff grounds policy what two.old.size two fault (joined o p))
+  why_after (inl (fails, still)) = inl (fails, silent_both o p on none still)
+  why_after (inr (kept, broken)) = inr (kept, broken_after grounds policy what two.old.size two fault o p on none broken)
+
+all_after : (grounds marks : Grounds) (policy : Policy) (from : ℕ) (two : Two) (fault : FetchFault) (o p : Passage) → GoesOn o p → IsUnwritten o
+    → FailsAll grounds marks policy from two fault p → FailsAll grounds marks policy from two fault (joined o p)
+all_after grounds marks policy from two fault o p on none f = record { why = why_after f.why; fair = f.fair } where
+  why_after : (AreStill grounds marks × BreaksOff grounds policy wanted.All from two fault p)
+      ⊎ (PrintedWhole (IsWanted policy.origin from two.new wanted.All) p × ((grounds.fails fault × marks.still) ⊎ (grounds.keeps two.note × marks.fails fault)))
+      → (AreStill grounds marks × BreaksOff grounds policy wanted.All from two fault (joined o p))
+      ⊎ (PrintedWhole (IsWanted policy.origin from two.new wanted.All) (joined o p) × ((grounds.fails fault × marks.still) ⊎ (grounds.keeps two.note × marks.fails fault)))
+  why_after (inl (left, broken)) = inl (left, broken_after grounds policy wanted.All from two fault o p on none broken)
+  why_after (inr (printed, unkept)) = inr (silent_whole (IsWanted policy.origin from two.new wanted.All) o p on none printed, unkept)
 
 pub two_after : (grounds : Grounds) (policy : Policy) (two : Two) (fault : FetchFault) (o p : Passage) → GoesOn o p → IsUnwritten o
     → RefusesTwo grounds policy two fault p → RefusesTwo grounds policy two fault (joined o p)
 two_after grounds policy two fault o p on none (inl (inl (forked, printed))) = inl (inl (forked, silent_whole (IsEvidenceOf policy two) o p on none printed))
-two_after grounds policy two fault o p on none (inl (inr (inl (write, (text, is, part))))) = inl (inr (inl (write, (text, is, silent_some (λ t. t ≡ text) o p on none part))))
+two_after grounds policy two fault o p on none (inl (inr (inl ((write, failed), (text, is, part))))) = inl (inr (inl ((write, failed), (text, is, silent_some (λ t. t ≡ text) o p on none part))))
 two_after grounds policy two fault o p on none (inl (inr (inr (last, of_none, told, still)))) = inl (inr (inr (last, of_none, told, silent_both o p on none still)))
 two_after grounds policy two fault o p on none (inr (fair, still)) = inr (fair, silent_both o p on none still)
 
 grown_after : (grounds marks : Grounds) (policy : Policy) (what : FetchRequest) (two : Two) (fault : FetchFault) (o p : Passage) → GoesOn o p → IsUnwritten o
     → RefusesGrown grounds marks policy what two fault p → RefusesGrown grounds marks policy what two fault (joined o p)
-grown_after grounds marks policy wanted.Head two fault o p on none f = fails_after grounds grounds.fails policy wanted.Head two.old.size two.new fault o p on none f
-grown_after grounds marks policy (wanted.Entry index) two fault o p on none f = fails_after grounds grounds.fails policy (wanted.Entry index) two.old.size two.new fault o p on none f
-grown_after grounds marks policy (wanted.Raw index) two fault o p on none f = fails_after grounds grounds.fails policy (wanted.Raw index) two.old.size two.new fault o p on none f
-grown_after grounds marks policy wanted.All two fault o p on none (inl (lacks, fair, still)) = inl (lacks, fair, silent_both o p on none still)
-grown_after grounds marks policy wanted.All two fault o p on none (inr (last, old, had, known, inl refused)) =
-    inr (last, old, had, known, inl (two_after grounds policy (since two last old) fault o p on none refused))
+grown_after grounds marks policy wanted.Head two fault o p on none f = fails_after grounds policy wanted.Head two fault o p on none f
+grown_after grounds marks policy (wanted.Entry index) two fault o p on none f = fails_after grounds policy (wanted.Entry index) two fault o p on none f
+grown_after grounds marks policy (wanted.Raw index) two fault o p on none f = fails_after grounds policy (wanted.Raw index) two fault o p on none f
+grown_after grounds marks policy wanted.All two fault o p on none (inl (lacks, fair, left, still)) = inl (lacks, fair, left, silent_both o p on none still)
+grown_after grounds marks policy wanted.All two fault o p on none (inr (last, old, had, known, inl (refused, left))) =
+    inr (last, old, had, known, inl (two_after grounds policy (since two last old) fault o p on none refused, left))
 grown_after grounds marks policy wanted.All two fault o p on none (inr (last, old, had, known, inr (grown, f))) =
-    inr (last, old, had, known, inr (grown, fails_after grounds (λ x. grounds.fails x ⊎ marks.fails x) policy wanted.All (first_wanted last old two.old) two.new fault o p on none f))
-grown_after grounds marks policy (wanted.Proof index) two fault o p on none f = fails_after grounds grounds.fails policy (wanted.Proof index) two.old.size two.new fault o p on none f
+    inr (last, old, had, known, inr (grown, all_after grounds marks policy (first_wanted last old two.old) two fault o p on none f))
+grown_after grounds marks policy (wanted.Proof index) two fault o p on none f = fails_after grounds policy (wanted.Proof index) two fault o p on none f
 
 -- what is printed of a log that goes on
-pub fetched_two : (state marks : Store) (policy : Policy) (what : FetchRequest) (two : Two) (o p : Passage) → AreTwo state.may_have policy two → IsGrown two.old two.new
-    → GoesOn o p → IsUnwritten o → HasPrinted marks.may_have marks.has_kept policy two what p → state.has_kept two.note → HasFetched state marks policy what (joined o p)
-fetched_two state marks policy what two o p are grown on none printed kept =
+pub fetched_two : (answers : Resource → Bytes → Type 0) (state marks : Store) (policy : Policy) (what : FetchRequest) (two : Two) (o p : Passage) → AreTwo state.may_have (answers Checkpoint) policy two
+    → IsGrown two.old two.new → GoesOn o p → IsUnwritten o → HasPrinted marks.may_have marks.has_kept policy two what p → state.has_kept two.note
+    → HasFetched answers state marks policy what (joined o p)
+fetched_two answers state marks policy what two o p are grown on none printed kept =
     record { two = two; are = are; grown = grown; printed = print_after marks.may_have marks.has_kept policy two what o p on none printed; kept = kept }
 
 -- what was begun of it
-pub begun_two : (grounds marks : Grounds) (policy : Policy) (what : FetchRequest) (two : Two) (fault : FetchFault) (o p : Passage) → AreTwo grounds.has policy two
+pub begun_two : (grounds marks : Grounds) (policy : Policy) (what : FetchRequest) (two : Two) (fault : FetchFault) (o p : Passage) → AreTwo grounds.has (grounds.answers Checkpoint) policy two
     → IsGrown two.old two.new → GoesOn o p → IsUnwritten o → RefusesGrown grounds marks policy what two fault p
     → RefusesFetch grounds marks policy what fault (joined o p)
 begun_two grounds marks policy what two fault o p are grown on none refused =
@@ -163,11 +166,11 @@ begun_two grounds marks policy what two fault o p are grown on none refused =
 
 -- the log doesn't go on from there
 pub unmarked : (grounds marks : Grounds) (policy : Policy) (two : Two) (last kept : Option Bytes) (old : Head) (fault : FetchFault) (o : Passage) → last ≡ kept → marks.has kept
-    → IsKnown policy kept old → IsNoteOf policy two.note two.new → JudgesTwo grounds.answers grounds.lacks (since two last old) fault o
+    → IsKnown policy kept old → IsNoteOf policy two.note two.new → JudgesTwo grounds.answers grounds.lacks (since two last old) fault o → AreStill grounds marks
     → RefusesGrown grounds marks policy wanted.All two fault o
-unmarked grounds marks policy two last kept old fault o same had known trusted refused =
+unmarked grounds marks policy two last kept old fault o same had known trusted refused left =
     let here = subst (λ (l : Option Bytes). IsKnown policy l old) (sym same) known in
-    inr (last, old, subst marks.has (sym same) had, here, inl (judged grounds policy (since two last old) fault o here trusted refused))
+    inr (last, old, subst marks.has (sym same) had, here, inl (judged grounds policy (since two last old) fault o here trusted refused, left))
 
 -- they were printed from there on
 pub all_printed : (may_have : Option Bytes → Type 0) (has_kept : Bytes → Type 0) (policy : Policy) (two : Two) (last : Option Bytes) (old : Head) (from : ℕ) (o p : Passage) → GoesOn o p → IsUnwritten o
@@ -179,29 +182,29 @@ all_printed may_have has_kept policy two last old from o p on none marked is pri
 
 -- or not all of them
 pub all_begun : (grounds marks : Grounds) (policy : Policy) (two : Two) (last : Option Bytes) (old : Head) (from : ℕ) (fault : FetchFault) (o p : Passage) → GoesOn o p → IsUnwritten o
-    → IsMarked marks.has policy two.new last old → from ≡ first_wanted last old two.old → IsNoAccusation fault → PrintedSome (IsBegun policy.origin from two.new wanted.All) p
-    → (grounds.fails fault ⊎ marks.fails fault) ⊎ RefusesWanted grounds.answers grounds.lacks from two.new wanted.All fault
+    → IsMarked marks.has policy two.new last old → from ≡ first_wanted last old two.old → FailsAll grounds marks policy from two fault p
     → RefusesGrown grounds marks policy wanted.All two fault (joined o p)
-all_begun grounds marks policy two last old from fault o p on none marked is fair part why =
-    let fails = λ (f : FetchFault). grounds.fails f ⊎ marks.fails f in
-    let so : FailsGrown grounds fails policy wanted.All from two.new fault p = record { why = why; fair = fair; printed = part } in
-    inr (
-      last,
-      old,
-      marked.had,
-      marked.known,
-      inr (
-        marked.grown,
-        fails_after grounds fails policy wanted.All (first_wanted last old two.old) two.new fault o p on none
-            (subst (λ (n : ℕ). FailsGrown grounds fails policy wanted.All n two.new fault p) is so),
-      ),
-    )
+all_begun grounds marks policy two last old from fault o p on none marked is so = inr (
+  last,
+  old,
+  marked.had,
+  marked.known,
+  inr (
+    marked.grown,
+    all_after grounds marks policy (first_wanted last old two.old) two fault o p on none
+        (subst (λ (n : ℕ). FailsAll grounds marks policy n two fault p) is so),
+  ),
+)
 
 -- the two checkpoints, by what the code has of them
-pub are_two : (may_have : Option Bytes → Type 0) (policy : Policy) (last kept : Option Bytes) (old new : Head) (read note : Bytes) → last ≡ kept → read ≡ note → may_have kept
-    → IsKnown policy kept old → IsNoteOf policy read new → AreTwo may_have policy (two_of last old note new)
-are_two may_have policy last kept old new read note same_last same_note had known trusted =
-    record { had = subst may_have (sym same_last) had; known = subst (λ (l : Option Bytes). IsKnown policy l old) (sym same_last) known; trusted = subst (λ (n : Bytes). IsNoteOf policy n new) same_note trusted }
+pub are_two : (may_have : Option Bytes → Type 0) (may_answer : Bytes → Type 0) (policy : Policy) (last kept : Option Bytes) (old new : Head) (read note : Bytes) → last ≡ kept → read ≡ note → may_have kept
+    → IsKnown policy kept old → may_answer read → IsNoteOf policy read new → AreTwo may_have may_answer policy (two_of last old note new)
+are_two may_have may_answer policy last kept old new read note same_last same_note had known answered trusted = record {
+  had = subst may_have (sym same_last) had;
+  known = subst (λ (l : Option Bytes). IsKnown policy l old) (sym same_last) known;
+  answered = subst may_answer same_note answered;
+  trusted = subst (λ (n : Bytes). IsNoteOf policy n new) same_note trusted;
+}
 
 -- a run that isn't asked for all entries doesn't read up to where they were printed
 unread : (grounds marks others : Grounds) (policy : Policy) (what : FetchRequest) (two : Two) (fault : FetchFault) (o : Passage) → (what ≡ wanted.All → ⊥)
@@ -212,12 +215,61 @@ unread grounds marks others policy (wanted.Raw index) two fault o other f = f
 unread grounds marks others policy wanted.All two fault o other f = absurd (other refl)
 unread grounds marks others policy (wanted.Proof index) two fault o other f = f
 
-unread_fetch : (grounds marks others : Grounds) (policy : Policy) (what : FetchRequest) (fault : FetchFault) (o : Passage) → (what ≡ wanted.All → ⊥)
+unread_fetch : (grounds marks others : Grounds) (policy : Policy) (what : FetchRequest) (fault : FetchFault) (o : Passage) → (what ≡ wanted.All → ⊥) → others.still
     → RefusesFetch grounds marks policy what fault o → RefusesFetch grounds others policy what fault o
-unread_fetch grounds marks others policy what fault o other (inl before) = inl before
-unread_fetch grounds marks others policy what fault o other (inr (two, are, inl refused)) = inr (two, are, inl refused)
-unread_fetch grounds marks others policy what fault o other (inr (two, are, inr (grown, f))) =
+unread_fetch grounds marks others policy what fault o other left (inl (lacks, fair, still, none)) = inl (lacks, fair, (still.0, left), none)
+unread_fetch grounds marks others policy what fault o other left (inr (two, are, inl (refused, still))) = inr (two, are, inl (refused, (still.0, left)))
+unread_fetch grounds marks others policy what fault o other left (inr (two, are, inr (grown, f))) =
     inr (two, are, inr (grown, unread grounds marks others policy what two fault o other f))
+
+-- ---- a run that says nothing of what its stores keep
+
+module _ (answers : Resource → Bytes → Type 0) (lacks : Resource → Type 0) (has : Option Bytes → Type 0) (fails : FetchFault → Type 0) (still : Type 0) (keeps : Bytes → Type 0)
+    (had : Option Bytes → Type 0) (failed : FetchFault → Type 0) (stays : Type 0) (holds : Bytes → Type 0) where
+  abbrev Seen : Grounds
+  Seen = grounds_of answers lacks has fails still keeps
+
+  abbrev Marked : Grounds
+  Marked = grounds_of answers lacks had failed stays holds
+
+  unseen_fails : (policy : Policy) (what : FetchRequest) (two : Two) (fault : FetchFault) (o : Passage)
+      → FailsGrown Seen policy what two fault o → FailsGrown (unseen_of answers lacks has fails) policy what two fault o
+  unseen_fails policy what two fault o f = record { why = why_unseen f.why; fair = f.fair } where
+    why_unseen : (fails fault × IsUnwritten o) ⊎ (keeps two.note × BreaksOff Seen policy what two.old.size two fault o)
+        → (fails fault × IsUnwritten o) ⊎ (Unit {0} × BreaksOff (unseen_of answers lacks has fails) policy what two.old.size two fault o)
+    why_unseen (inl first) = inl first
+    why_unseen (inr (kept, broken)) = inr (tt, broken)
+
+  unseen_all : (policy : Policy) (from : ℕ) (two : Two) (fault : FetchFault) (o : Passage)
+      → FailsAll Seen Marked policy from two fault o → FailsAll (unseen_of answers lacks has fails) (unseen_of answers lacks had failed) policy from two fault o
+  unseen_all policy from two fault o f = record { why = why_unseen f.why; fair = f.fair } where
+    unkept : (fails fault × stays) ⊎ (keeps two.note × failed fault) → (fails fault × Unit {0}) ⊎ (Unit {0} × failed fault)
+    unkept (inl (first, left)) = inl (first, tt)
+    unkept (inr (kept, second)) = inr (tt, second)
+
+    why_unseen : ((still × stays) × BreaksOff Seen policy wanted.All from two fault o)
+        ⊎ (PrintedWhole (IsWanted policy.origin from two.new wanted.All) o × ((fails fault × stays) ⊎ (keeps two.note × failed fault)))
+        → ((Unit {0} × Unit {0}) × BreaksOff (unseen_of answers lacks has fails) policy wanted.All from two fault o)
+        ⊎ (PrintedWhole (IsWanted policy.origin from two.new wanted.All) o × ((fails fault × Unit {0}) ⊎ (Unit {0} × failed fault)))
+    why_unseen (inl (left, broken)) = inl ((tt, tt), broken)
+    why_unseen (inr (printed, second)) = inr (printed, unkept second)
+
+  unseen_grown : (policy : Policy) (what : FetchRequest) (two : Two) (fault : FetchFault) (o : Passage)
+      → RefusesGrown Seen Marked policy what two fault o → RefusesGrown (unseen_of answers lacks has fails) (unseen_of answers lacks had failed) policy what two fault o
+  unseen_grown policy wanted.Head two fault o f = unseen_fails policy wanted.Head two fault o f
+  unseen_grown policy (wanted.Entry index) two fault o f = unseen_fails policy (wanted.Entry index) two fault o f
+  unseen_grown policy (wanted.Raw index) two fault o f = unseen_fails policy (wanted.Raw index) two fault o f
+  unseen_grown policy wanted.All two fault o (inl (missing, fair, left, none)) = inl (missing, fair, (tt, tt), none)
+  unseen_grown policy wanted.All two fault o (inr (last, old, is, known, inl (refused, left))) = inr (last, old, is, known, inl (refused, (tt, tt)))
+  unseen_grown policy wanted.All two fault o (inr (last, old, is, known, inr (grown, f))) =
+      inr (last, old, is, known, inr (grown, unseen_all policy (first_wanted last old two.old) two fault o f))
+  unseen_grown policy (wanted.Proof index) two fault o f = unseen_fails policy (wanted.Proof index) two fault o f
+
+  pub unseen : (policy : Policy) (what : FetchRequest) (fault : FetchFault) (o : Passage)
+      → RefusesFetch Seen Marked policy what fault o → RefusesFetch (unseen_of answers lacks has fails) (unseen_of answers lacks had failed) policy what fault o
+  unseen policy what fault o (inl (missing, fair, left, none)) = inl (missing, fair, (tt, tt), none)
+  unseen policy what fault o (inr (two, are, inl (refused, left))) = inr (two, are, inl (refused, (tt, tt)))
+  unseen policy what fault o (inr (two, are, inr (grown, f))) = inr (two, are, inr (grown, unseen_grown policy what two fault o f))
 
 unread_printed : (may_have other_have : Option Bytes → Type 0) (has_kept other_kept : Bytes → Type 0) (policy : Policy) (two : Two) (what : FetchRequest) (o : Passage) → (what ≡ wanted.All → ⊥)
     → HasPrinted may_have has_kept policy two what o → HasPrinted other_have other_kept policy two what o
@@ -236,28 +288,30 @@ any_printed may_have has_kept policy two wanted.All o (last, old, marked, printe
 any_printed may_have has_kept policy two (wanted.Proof index) o printed = printed
 
 -- how a run ends with a state whose contents nobody sees, and a file of that kind beside it, or none that is read
-pub runs_with : (answers : Resource → Bytes → Type 0) (lacks : Resource → Type 0) (has : Option Bytes → Type 0) (fails : FetchFault → Type 0) (kept marked : Bytes → Type 0) (policy : Policy) (what : FetchRequest) (r : Result (Unit {0}) FetchFault) (o : Passage)
-    → OnOk r (HasFetched (record { may_have = has; has_kept = kept }) (record { may_have = has; has_kept = marked }) policy what o)
-    → IfErr r (λ fault. RefusesFetch (grounds_of answers lacks has fails) (grounds_of answers lacks has fails) policy what fault o)
+pub runs_with : (answers : Resource → Bytes → Type 0) (lacks : Resource → Type 0) (has : Option Bytes → Type 0) (fails : FetchFault → Type 0) (still stays : Type 0) (kept marked : Bytes → Type 0) (policy : Policy) (what : FetchRequest) (r : Result (Unit {0}) FetchFault) (o : Passage)
+    → OnOk r (HasFetched answers (record { may_have = has; has_kept = kept }) (record { may_have = has; has_kept = marked }) policy what o)
+    → IfErr r (λ fault. RefusesFetch (grounds_of answers lacks has fails still kept) (grounds_of answers lacks has fails stays marked) policy what fault o)
     → RunsWith answers lacks has fails policy what o r
-runs_with answers lacks has fails kept marked policy what (Ok done) o f refused =
+runs_with answers lacks has fails still stays kept marked policy what (Ok done) o f refused =
     record { two = f.two; are = f.are; grown = f.grown; printed = any_printed has marked policy f.two what o f.printed; kept = tt }
-runs_with answers lacks has fails kept marked policy what (Err fault) o f refused = refused
+runs_with answers lacks has fails still stays kept marked policy what (Err fault) o f refused =
+    unseen answers lacks has fails still kept has fails stays marked policy what fault o refused
 
-pub runs_without : (answers : Resource → Bytes → Type 0) (lacks : Resource → Type 0) (has other : Option Bytes → Type 0) (fails others : FetchFault → Type 0) (kept marked : Bytes → Type 0) (policy : Policy) (what : FetchRequest) (r : Result (Unit {0}) FetchFault) (o : Passage)
+pub runs_without : (answers : Resource → Bytes → Type 0) (lacks : Resource → Type 0) (has other : Option Bytes → Type 0) (fails others : FetchFault → Type 0) (still stays : Type 0) (kept marked : Bytes → Type 0) (policy : Policy) (what : FetchRequest) (r : Result (Unit {0}) FetchFault) (o : Passage)
     → (what ≡ wanted.All → ⊥)
-    → OnOk r (HasFetched (record { may_have = has; has_kept = kept }) (record { may_have = other; has_kept = marked }) policy what o)
-    → IfErr r (λ fault. RefusesFetch (grounds_of answers lacks has fails) (grounds_of answers lacks other others) policy what fault o)
+    → OnOk r (HasFetched answers (record { may_have = has; has_kept = kept }) (record { may_have = other; has_kept = marked }) policy what o)
+    → IfErr r (λ fault. RefusesFetch (grounds_of answers lacks has fails still kept) (grounds_of answers lacks other others stays marked) policy what fault o)
     → RunsWith answers lacks has fails policy what o r
-runs_without answers lacks has other fails others kept marked policy what (Ok done) o some f refused =
+runs_without answers lacks has other fails others still stays kept marked policy what (Ok done) o some f refused =
     record { two = f.two; are = f.are; grown = f.grown; printed = unread_printed other has marked (λ note. Unit {0}) policy f.two what o some f.printed; kept = tt }
-runs_without answers lacks has other fails others kept marked policy what (Err fault) o some f refused =
-    unread_fetch (grounds_of answers lacks has fails) (grounds_of answers lacks other others) (grounds_of answers lacks has fails) policy what fault o some refused
+runs_without answers lacks has other fails others still stays kept marked policy what (Err fault) o some f refused =
+    unread_fetch (unseen_of answers lacks has fails) (unseen_of answers lacks other others) (unseen_of answers lacks has fails) policy what fault o some tt
+    (unseen answers lacks has fails still kept other others stays marked policy what fault o refused)
 
 -- a file fails before there is trust, and nothing was printed
 pub no_file : (answers : Resource → Bytes → Type 0) (lacks : Resource → Type 0) (policy : Policy) (what : FetchRequest) (fault : FetchFault) (o : Passage) → IsStateFault fault → IsNoAccusation fault → IsUnwritten o
-    → RefusesFetch (grounds_of answers lacks (λ note. Unit {0}) IsStateFault) (grounds_of answers lacks (λ note. Unit {0}) IsStateFault) policy what fault o
-no_file answers lacks policy what fault o fails fair none = inl (inl (inl fails), fair, none)
+    → RefusesFetch (unseen_of answers lacks (λ note. Unit {0}) IsStateFault) (unseen_of answers lacks (λ note. Unit {0}) IsStateFault) policy what fault o
+no_file answers lacks policy what fault o fails fair none = inl (inl (inl fails), fair, (tt, tt), none)
 
 -- a run without a file of a state, and with one
 pub no_state : {A : Type 0} (state : Option A) (answers : Resource → Bytes → Type 0) (lacks : Resource → Type 0) (policy : Policy) (what : FetchRequest) (r : Result (Unit {0}) FetchFault) (o : Passage) → state ≡ None
@@ -284,12 +338,33 @@ some_cache {A} {P} {S} cache folder answers lacks both first source policy optio
     subst (λ c. RunsOver (cached_answers c (answers source)) (cached_lacks c (lacks source)) policy options o result) (sym some)
     (subst (λ (s : S). RunsOver (may_answer_either (λ r text. length text ≤ most_bytes r) (answers s)) (may_lack_both (λ r. Unit {0}) (lacks s)) policy options o result) (ap (λ (p : P × S). p.1) is) runs)
 
+-- what a fault is told as
+pub told_is : (fault : FetchFault) (lack : Option Lack) → IsToldAs fault (told_as fault lack)
+told_is fetch.Unavailable (Some lack) = inr (refl, (lack.resource, lack.why, refl))
+told_is fetch.Unavailable None = inl refl
+told_is (fetch.Run fault) lack = inl refl
+told_is (fetch.BadAddress which) lack = inl refl
+told_is fetch.OtherKey lack = inl refl
+told_is (fetch.BadWitness place) lack = inl refl
+told_is (fetch.SharedKey place) lack = inl refl
+told_is fetch.OtherLog lack = inl refl
+told_is (fetch.TooFew count) lack = inl refl
+told_is (fetch.Stale time) lack = inl refl
+told_is (fetch.BadTile level index width) lack = inl refl
+told_is (fetch.BadBundle bundle) lack = inl refl
+told_is (fetch.BadEntry index) lack = inl refl
+told_is (fetch.Older size of compared) lack = inl refl
+told_is fetch.Forked lack = inl refl
+
+pub told_by : (fault told : FetchFault) (lack : Option Lack) → told ≡ told_as fault lack → IsToldAs fault told
+told_by fault told lack is = subst (IsToldAs fault) (sym is) (told_is fault lack)
+
 -- the end of a run over a folder or a host, whose fault names what was lacked
-pub renamed : (policy : Policy) (options : FetchOptions) (origin : Origin) (o : Passage) (outcome told : Result (Unit {0}) FetchFault) → IsOriginOf (string_bytes options.from) origin
-    → Renames outcome told
-    → RunsOver (cached_answers options.cache (may_answer_front (any_answers origin) (λ r. Unit {0}))) (cached_lacks options.cache (λ r. Unit {0})) policy options o outcome
+pub renamed : (policy : Policy) (options : FetchOptions) (origin : Origin) (lack : Option Lack) (o : Passage) (outcome told : Result (Unit {0}) FetchFault) → IsOriginOf (string_bytes options.from) origin
+    → Renames outcome lack told
+    → RunsOver (run_answers origin options) (cached_lacks options.cache (λ r. Unit {0})) policy options o outcome
     → RunsUnder policy options o told
-renamed policy options origin o (Ok done) (Ok again) at same runs = runs
-renamed policy options origin o (Ok done) (Err other) at same runs = absurd same
-renamed policy options origin o (Err fault) (Ok done) at same runs = absurd same
-renamed policy options origin o (Err fault) (Err other) at same runs = inr (origin, at, (fault, same, runs))
+renamed policy options origin lack o (Ok done) (Ok again) at same runs = (origin, at, runs)
+renamed policy options origin lack o (Ok done) (Err other) at same runs = absurd same
+renamed policy options origin lack o (Err fault) (Ok done) at same runs = absurd same
+renamed policy options origin lack o (Err fault) (Err other) at same runs = inr (origin, at, (fault, told_by fault other lack same, runs))

@@ -22,7 +22,7 @@ use Rattle.tl_fetch.specs.declared.fault.FetchFault.{FetchFault}
 use Rattle.tl_fetch.specs.declared.fault.FetchFault.TheVariants.{Run, BadAddress, OtherKey, BadWitness, SharedKey, Unavailable}
 use Rattle.tl_fetch.specs.declared.options.FetchOptions.{FetchOptions}
 use Rattle.tl_fetch.specs.Trusting.{Policy}
-use Rattle.tl_fetch.specs.Fetching.{Grounds, HasFetched, RefusesFetch, Store, grounds_of}
+use Rattle.tl_fetch.specs.Fetching.{Grounds, HasFetched, RefusesFetch, Store, unseen_of}
 
 -- ---- whose checkpoints are trusted
 
@@ -119,14 +119,17 @@ state_fails (Some path) fault = IsStateFault fault
 
 -- the grounds over a source that may answer these texts and may lack these resources
 abbrev pub grounds_over : (Resource → Bytes → Type 0) → (Resource → Type 0) → FetchOptions → Grounds
-grounds_over answers lacks options = grounds_of answers lacks (may_have options.state) (state_fails options.state)
+grounds_over answers lacks options = unseen_of answers lacks (may_have options.state) (state_fails options.state)
 
--- the grounds over the folder or the host, whose full tiles and bundles stand for partial ones that are gone, and
--- over its kept tiles
+-- what may be answered over the folder or the host, whose full tiles and bundles stand for partial ones that are
+-- gone, and over its kept tiles
+abbrev pub run_answers : Origin → FetchOptions → Resource → Bytes → Type 0
+run_answers origin options = cached_answers options.cache (may_answer_front (any_answers origin) (λ r. Unit {0}))
+
+-- the grounds over these
 abbrev pub run_grounds : Origin → FetchOptions → Grounds
 run_grounds origin options =
-    grounds_over (cached_answers options.cache (may_answer_front (any_answers origin) (λ r. Unit {0})))
-    (cached_lacks options.cache (λ r. Unit {0})) options
+    grounds_over (run_answers origin options) (cached_lacks options.cache (λ r. Unit {0})) options
 
 -- ---- how a run ends
 
@@ -147,7 +150,9 @@ RefusesRun policy options told o =
 
 -- a run under a policy
 abbrev pub RunsUnder : Policy → FetchOptions → Passage → Result (Unit {0}) FetchFault → Type 0
-RunsUnder policy options o (Ok done) = HasFetched (file_of options.state) (file_of options.state) policy options.wanted o
+RunsUnder policy options o (Ok done) =
+    (origin : Origin) × IsOriginOf (string_bytes options.from) origin
+    × HasFetched (run_answers origin options) (file_of options.state) (file_of options.state) policy options.wanted o
 RunsUnder policy options o (Err fault) = RefusesRun policy options fault o
 
 -- reading the log's keys fails: a text is of no key, or memory ran out
@@ -179,9 +184,10 @@ abbrev pub IsKeyFault : FetchOptions → FetchFault → Type 0
 IsKeyFault options (Run fault) = IsLogKeyFault options fault
 IsKeyFault options OtherKey = IsOtherKey options
 IsKeyFault options (BadWitness place) =
-    IsNoVerifierText cosignature_kind (witness_text options place)
+    (place < length (witness_texts options)) × IsNoVerifierText cosignature_kind (witness_text options place)
 IsKeyFault options (SharedKey place) =
-    (k : PublicKey) × IsVerifierText cosignature_kind (witness_text options place) k × IsEarlierKey options place k.key
+    (place < length (witness_texts options))
+    × ((k : PublicKey) × IsVerifierText cosignature_kind (witness_text options place) k × IsEarlierKey options place k.key)
 IsKeyFault options fault = ⊥
 
 -- a run under the policy that the options describe

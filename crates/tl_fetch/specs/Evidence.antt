@@ -49,8 +49,8 @@ LacksProof answers lacks old larger why =
     ⊎ (why ≡ client.OutOfMemory))
 
 -- it isn't known whether the smaller tree begins the larger one: a check fails for a reason that accuses nobody, or
--- it shows a fork and the proof for the evidence is lacking
+-- it shows a fork between two sizes and the proof for the evidence is lacking
 abbrev pub RefusesComparison : (Resource → Bytes → Type 0) → (Resource → Type 0) → Head → Head → ClientFault → Type 0
 RefusesComparison answers lacks smaller larger why =
     (RefusesGrowth answers lacks smaller larger why × (why ≢ client.Forked))
-    ⊎ (IsFork sha256 smaller larger × LacksProof answers lacks smaller.size larger why)
+    ⊎ (IsFork sha256 smaller larger × (smaller.size ≢ larger.size) × LacksProof answers lacks smaller.size larger why)

@@ -2,6 +2,8 @@
 use Rattle.std.specs.Prelude.{◌≡◌, ◌⊎◌, ◌<◌, ℕ, List, [], Result, Ok, Err, length, map, slice_index_or, string_bytes, vec_items}
 use Rattle.tl_hash.specs.Bytes.{Bytes}
 use Rattle.tl_device.specs.Device.{Passage, IsUnwritten}
+use Rattle.tl_tile.specs.declared.resource.Resource.{Resource}
+use Rattle.tl_tile.specs.declared.resource.Resource.TheVariants.{Checkpoint}
 use Rattle.tl_source.specs.Fulls.{may_answer_front}
 use Rattle.tl_source.specs.Sources.{Origin, any_answers}
 use Rattle.tl_source.specs.Url.{IsNoUrl}
@@ -33,15 +35,20 @@ IsAddressFault options fault =
     ⊎ (((place : ℕ) × (fault ≡ BadAddress (To place)) × IsFirstNoUrl (address_texts options) place)
     ⊎ (fault ≡ Run OutOfMemory))
 
--- the grounds over the folder or the host, whose full tiles and bundles stand for partial ones that are gone
+-- what may be answered over the folder or the host, whose full tiles and bundles stand for partial ones that are gone
+abbrev pub feed_answers : Origin → Resource → Bytes → Type 0
+feed_answers origin = may_answer_front (any_answers origin) (λ r. Unit {0})
+
+-- the grounds over these
 abbrev pub feed_grounds : Origin → FetchOptions → Grounds
-feed_grounds origin options = grounds_over (may_answer_front (any_answers origin) (λ r. Unit {0})) (λ r. Unit {0}) options
+feed_grounds origin options = grounds_over (feed_answers origin) (λ r. Unit {0}) options
 
 -- a run under a policy: two checkpoints are trusted, the state's and the source's, and the source's was fed; or an
 -- address is none, and nothing is printed; or it fails as `RefusesFeed` says
 abbrev pub RunsFeedUnder : Policy → FeedOptions → Passage → Result (Unit {0}) FetchFault → Type 0
 RunsFeedUnder policy options o (Ok done) =
-    (two : Two) × AreTwo (may_have options.log.state) (alone policy) two × HasFed (λ note. Unit {0}) policy two o
+    (origin : Origin) × IsOriginOf (string_bytes options.log.from) origin
+    × ((two : Two) × AreTwo (may_have options.log.state) (feed_answers origin Checkpoint) (alone policy) two × HasFed (λ note. Unit {0}) policy two o)
 RunsFeedUnder policy options o (Err told) =
     (IsAddressFault options told × IsUnwritten o)
     ⊎ ((origin : Origin) × IsOriginOf (string_bytes options.log.from) origin

@@ -3,13 +3,14 @@ use Rattle.std.specs.Prelude.{◌≡◌, ◌⊎◌, ◌++◌}
 use Rattle.tl_hash.specs.Bytes.{Bytes}
 use Rattle.tl_hash.specs.declared.head.Head.{Head}
 use Rattle.tl_device.specs.Device.{Passage, IsUnwritten}
-use Rattle.tl_run.specs.declared.fault.RunFault.TheVariants.{OutOfMemory, Write}
+use Rattle.tl_tile.specs.declared.resource.Resource.TheVariants.{Checkpoint}
+use Rattle.tl_run.specs.declared.fault.RunFault.TheVariants.{OutOfMemory}
 use Rattle.tl_fetch.specs.declared.fault.FetchFault.{FetchFault}
 use Rattle.tl_fetch.specs.declared.fault.FetchFault.TheVariants.{Run}
 use Rattle.tl_fetch.specs.Faults.{IsNoAccusation, bad_checkpoint}
 use Rattle.tl_fetch.specs.Fetching.{Grounds, LacksTrust, RefusesTwo}
 use Rattle.tl_fetch.specs.Opening.{RefusesNote}
-use Rattle.tl_fetch.specs.Printed.{PrintedSome, PrintedWhole}
+use Rattle.tl_fetch.specs.Printed.{FailsWriting, PrintedSome, PrintedWhole}
 use Rattle.tl_fetch.specs.Trusting.{AreTwo, IsGrown, IsNoteOf, Policy, Two, alone}
 
 -- ---- what is printed
@@ -36,17 +37,22 @@ IsUnfed policy note fault =
     ((lines : Bytes) × RefusesNote policy (note ++ lines) fault)
     ⊎ ((fault ≡ Run OutOfMemory) ⊎ (fault ≡ Run bad_checkpoint))
 
--- the log extends what was known, and the state fails, not enough witnesses cosign, or the writer fails
+-- not enough witnesses cosign, and nothing is printed; or the writer fails
+abbrev pub BreaksOffFeeding : Policy → Two → FetchFault → Passage → Type 0
+BreaksOffFeeding policy two fault o =
+    (IsUnfed policy two.note fault × IsUnwritten o) ⊎ (FailsWriting fault o × PrintedSome (IsFedNote policy two.note two.new) o)
+
+-- the log extends what was known, and the state fails before anything is printed, or it has kept the note and that
+-- isn't printed
 pub record RefusesFed (grounds : Grounds) (policy : Policy) (two : Two) (fault : FetchFault) (o : Passage) : Type 0 where
   pub grown : IsGrown two.old two.new
-  pub why : grounds.fails fault ⊎ (IsUnfed policy two.note fault ⊎ (fault ≡ Run Write))
+  pub why : (grounds.fails fault × IsUnwritten o) ⊎ (grounds.keeps two.note × BreaksOffFeeding policy two fault o)
   pub fair : IsNoAccusation fault
-  pub printed : PrintedSome (IsFedNote policy two.note two.new) o
 
 -- a run fails, as `RefusesFetch` says: before there is trust; or over two checkpoints of which one doesn't extend the
 -- other; or after that
 abbrev pub RefusesFeed : Grounds → Policy → FetchFault → Passage → Type 0
 RefusesFeed grounds policy fault o =
-    (LacksTrust grounds (alone policy) fault × IsNoAccusation fault × IsUnwritten o)
-    ⊎ ((two : Two) × AreTwo grounds.has (alone policy) two
-    × (RefusesTwo grounds (alone policy) two fault o ⊎ RefusesFed grounds policy two fault o))
+    (LacksTrust grounds (alone policy) fault × IsNoAccusation fault × grounds.still × IsUnwritten o)
+    ⊎ ((two : Two) × AreTwo grounds.has (grounds.answers Checkpoint) (alone policy) two
+    × ((RefusesTwo grounds (alone policy) two fault o × grounds.still) ⊎ RefusesFed grounds policy two fault o))

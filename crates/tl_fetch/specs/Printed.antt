@@ -1,11 +1,11 @@
 -- What is printed of a log that isn't trusted.
-use Rattle.std.specs.Prelude.{◌≡◌, ◌⊎◌, ◌<◌, ℕ, ◌++◌, take}
+use Rattle.std.specs.Prelude.{◌≡◌, ◌⊎◌, ◌<◌, ◌*◌, ◌+◌, ℕ, ◌++◌, take}
 use Rattle.sha2.specs.Sha256.{sha256}
 use Rattle.std.specs.Io.KnownBytes.{Appends}
 use Rattle.tl_hash.specs.Bytes.{Bytes}
 use Rattle.tl_hash.specs.Tree.{leaf_input}
 use Rattle.tl_text.specs.Text.{line, number_text, base64_text}
-use Rattle.tl_device.specs.Device.{Passage, IsUnwritten, WroteWhole}
+use Rattle.tl_device.specs.Device.{Passage, HasFailed, IsUnwritten, WroteWhole}
 use Rattle.tl_proof.specs.Acceptance.{AcceptsInclusion}
 use Rattle.tl_command.specs.ProofText.{Inclusion, inclusion_text}
 use Rattle.tl_fetch.specs.declared.fault.FetchFault.{FetchFault}
@@ -67,20 +67,33 @@ PrintedSome Is o = IsUnwritten o ⊎ ((text : Bytes) × Is text × (count : ℕ)
 
 -- ---- why not all of it was printed
 
--- the writer failed, memory ran out, or a check failed for a reason that has this fault
-abbrev pub FailsPrinting : (ClientFault → Type 0) → FetchFault → Type 0
-FailsPrinting Why fault =
-    (fault ≡ Run Write) ⊎ ((fault ≡ Run OutOfMemory) ⊎ ((why : ClientFault) × Why why × (fault ≡ after_client why)))
+-- a check failed for a reason that has this fault, or memory ran out
+abbrev pub FailsChecking : (ClientFault → Type 0) → FetchFault → Type 0
+FailsChecking Why fault = (fault ≡ Run OutOfMemory) ⊎ ((why : ClientFault) × Why why × (fault ≡ after_client why))
+
+-- the writer failed
+abbrev pub FailsWriting : FetchFault → Passage → Type 0
+FailsWriting fault o = (fault ≡ Run Write) × HasFailed o
+
+-- the writer failed, or what is to be printed isn't had
+abbrev pub FailsPrinting : (ClientFault → Type 0) → FetchFault → Passage → Type 0
+FailsPrinting Why fault o = FailsWriting fault o ⊎ FailsChecking Why fault
+
+-- the log has the bundle, which has entries with this index or a later one
+pub record IsBundleFrom (head : Head) (from bundle : ℕ) : Type 0 where
+  pub within : 256 * bundle < head.size
+  pub later : from < 256 * bundle + 256
 
 -- not all entries from this index on are printed: it is above the size, or a bundle can't be read
-abbrev pub RefusesAll : (Resource → Bytes → Type 0) → (Resource → Type 0) → Head → ℕ → FetchFault → Type 0
-RefusesAll answers lacks head from fault =
-    ((head.size < from) × (fault ≡ Run BadIndex)) ⊎ FailsPrinting (λ why. (bundle : ℕ) × RefusesBundle answers lacks head bundle why) fault
+abbrev pub RefusesAll : (Resource → Bytes → Type 0) → (Resource → Type 0) → Head → ℕ → FetchFault → Passage → Type 0
+RefusesAll answers lacks head from fault o =
+    ((head.size < from) × (fault ≡ Run BadIndex))
+    ⊎ FailsPrinting (λ why. (bundle : ℕ) × IsBundleFrom head from bundle × RefusesBundle answers lacks head bundle why) fault o
 
 -- what is asked for of a log of which `known` entries were known isn't printed whole, for this reason
-abbrev pub RefusesWanted : (Resource → Bytes → Type 0) → (Resource → Type 0) → ℕ → Head → FetchRequest → FetchFault → Type 0
-RefusesWanted answers lacks known head wanted.Head fault = (fault ≡ Run Write) ⊎ (fault ≡ Run OutOfMemory)
-RefusesWanted answers lacks known head (wanted.Entry index) fault = FailsPrinting (RefusesOne answers lacks head index) fault
-RefusesWanted answers lacks known head (wanted.Raw index) fault = FailsPrinting (RefusesOne answers lacks head index) fault
-RefusesWanted answers lacks known head wanted.All fault = RefusesAll answers lacks head known fault
-RefusesWanted answers lacks known head (wanted.Proof index) fault = FailsPrinting (RefusesProof answers lacks head index) fault
+abbrev pub RefusesWanted : (Resource → Bytes → Type 0) → (Resource → Type 0) → ℕ → Head → FetchRequest → FetchFault → Passage → Type 0
+RefusesWanted answers lacks known head wanted.Head fault o = FailsWriting fault o ⊎ (fault ≡ Run OutOfMemory)
+RefusesWanted answers lacks known head (wanted.Entry index) fault o = FailsPrinting (RefusesOne answers lacks head index) fault o
+RefusesWanted answers lacks known head (wanted.Raw index) fault o = FailsPrinting (RefusesOne answers lacks head index) fault o
+RefusesWanted answers lacks known head wanted.All fault o = RefusesAll answers lacks head known fault o
+RefusesWanted answers lacks known head (wanted.Proof index) fault o = FailsPrinting (RefusesProof answers lacks head index) fault o

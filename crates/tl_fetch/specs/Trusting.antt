@@ -79,8 +79,10 @@ pub record Two : Type 0 where
   pub note : Bytes
   pub new : Head
 
--- the two are what a state that may have this has, and what is trusted under the policy
-pub record AreTwo (may_have : Option Bytes → Type 0) (policy : Policy) (c : Two) : Type 0 where
+-- the two are what a state that may have this has, and what a source that may answer these notes answered, which is
+-- trusted under the policy
+pub record AreTwo (may_have : Option Bytes → Type 0) (may_answer : Bytes → Type 0) (policy : Policy) (c : Two) : Type 0 where
   pub had : may_have c.last
   pub known : IsKnown policy c.last c.old
+  pub answered : may_answer c.note
   pub trusted : IsNoteOf policy c.note c.new

@@ -2,9 +2,9 @@
 
 ghost use Rattle.std.specs.Prelude.{◌≡◌, ◌++◌, string_bytes, IfErr, IfOk, codes, map};
 ghost use Rattle.tl_device.specs.Device.{passage};
-ghost use Rattle.tl_fetch.specs.Command.{HasScheme, IsOriginOf, IsSinceOf, IsStateFault, IsToldAs, RunsFetch, RunsUnder, cached_answers, cached_lacks};
+ghost use Rattle.tl_fetch.specs.Command.{HasScheme, IsOriginOf, IsSinceOf, IsStateFault, RunsFetch, RunsUnder, cached_answers, cached_lacks};
 ghost use Rattle.tl_fetch.specs.Inner.LogKeys.{AreTold, ToldBy, keys_of};
-ghost use Rattle.tl_fetch.specs.Inner.Naming.{Renames, RunsOver, RunsWith};
+ghost use Rattle.tl_fetch.specs.Inner.Naming.{Renames, RunsOver, RunsWith, told_as};
 ghost use Rattle.tl_fetch.specs.Trusting.{policy_of};
 ghost use Rattle.tl_source.specs.Sources.{origin_of};
 ghost use Rattle.tl_source.specs.Url.{IsNoUrl};
@@ -205,7 +205,7 @@ fn fetch_with_state<
 // Returns a fault that names the resource which the last call of the source lacked, if that is the reason of this
 // one.
 fn name_lack(fault: FetchFault, lack: Option<Lack>) -> FetchFault
-    ensures { IsToldAs fault result }
+    ensures { result ≡ told_as fault lack }
 {
     match (fault, lack) {
         (FetchFault::Unavailable, Some(lack)) => {
@@ -221,7 +221,7 @@ pub(crate) fn with_lack(
     outcome: Result<(), FetchFault>,
     lack: Option<Lack>,
 ) -> Result<(), FetchFault>
-    ensures { Renames outcome result }
+    ensures { Renames outcome lack result }
 {
     match outcome {
         Ok(()) => Ok(()),

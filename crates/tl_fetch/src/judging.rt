@@ -6,7 +6,7 @@ ghost use Rattle.tl_client.specs.Refused.{RefusesGrowth};
 ghost use Rattle.tl_client.specs.declared.fault.ClientFault.TheVariants as client;
 ghost use Rattle.tl_command.specs.ProofShown.{consistency_shown};
 ghost use Rattle.tl_command.specs.ProofText.{IsConsistency};
-ghost use Rattle.tl_device.specs.Device.{IsUnwritten, passage};
+ghost use Rattle.tl_device.specs.Device.{HasFailed, IsUnwritten, passage};
 ghost use Rattle.tl_fork.specs.Evidence.{Disagree};
 ghost use Rattle.tl_fetch.specs.Evidence.{LacksProof, RefusesComparison, evidence_text};
 ghost use Rattle.tl_fetch.specs.Inner.Judging.{Accuses, JudgesTwo, LeadsTo, bare, two_of};
@@ -174,6 +174,7 @@ fn print_two<W: Write>(first: &[u8], second: &[u8], writer: &mut Counted<W>) -> 
         (λ text. text ≡ first.now ++ second.now) (passage W.contents writer.old writer.new)) }
     ensures part { OnErr result (PrintedSome
         (λ text. text ≡ first.now ++ second.now) (passage W.contents writer.old writer.new)) }
+    ensures failed { OnErr result (HasFailed (passage W.contents writer.old writer.new)) }
     ensures fault { IfErr result (λ fault. fault ≡ RunFault.Write) }
 {
     print_text(writer, first)?;
@@ -194,6 +195,7 @@ fn print_evidence<W: Write>(
         ≡ evidence_text last.now note.now shown.now) (passage W.contents writer.old writer.new)) }
     ensures part { OnErr result (PrintedSome (λ text. text
         ≡ evidence_text last.now note.now shown.now) (passage W.contents writer.old writer.new)) }
+    ensures failed { OnErr result (HasFailed (passage W.contents writer.old writer.new)) }
     ensures fault { IfErr result (λ fault. fault ≡ RunFault.Write) }
 {
     print_text(writer, last.as_bytes())?;

@@ -6,7 +6,7 @@ ghost use Rattle.tl_device.specs.Device.{passage};
 ghost use Rattle.tl_fetch.specs.Entries.{AreLinesBetween, RefusesBundle};
 ghost use Rattle.tl_fetch.specs.Listed.{length_line, listed, listed_text, needs_length};
 ghost use Rattle.tl_tile.specs.Verified.{HavePassed};
-ghost use Rattle.tl_fetch.specs.Printed.{FailsPrinting, PrintedSome, PrintedWhole, RefusesAll};
+ghost use Rattle.tl_fetch.specs.Printed.{FailsChecking, FailsPrinting, PrintedSome, PrintedWhole, RefusesAll};
 
 use crate::ahead::Ahead;
 use crate::fault::FetchFault;
@@ -82,7 +82,7 @@ fn lines_from<S: ResourceSource, A: Allocator + Copy, O: Observer>(
     ensures further { IfOk result (λ r. from < r.1) }
     ensures within { IfOk result (λ r. r.1 ≤ head.now.size) }
     ensures passed { OnOk result (HavePassed sha256 head.now.size head.now.root kept.new) }
-    ensures refused { IfErr result (FailsPrinting
+    ensures refused { IfErr result (FailsChecking
         (RefusesBundle (S.may_answer source.now) (S.may_lack source.now) head.now (from / 256))) }
 {
     kept.keep_path(from);
@@ -118,8 +118,9 @@ fn print_bundle<S: ResourceSource, A: Allocator + Copy, O: Observer, W: Write>(
     ensures passed { OnOk result (HavePassed sha256 head.now.size head.now.root kept.new) }
     ensures part { OnErr result (PrintedSome (λ text. (upto : ℕ)
         × AreLinesBetween head.now from upto text) (passage W.contents writer.old writer.new)) }
-    ensures refused { IfErr result (FailsPrinting
-        (RefusesBundle (S.may_answer source.now) (S.may_lack source.now) head.now (from / 256))) }
+    ensures refused { IfErr result (λ fault. FailsPrinting
+        (RefusesBundle (S.may_answer source.now) (S.may_lack source.now) head.now (from / 256))
+        fault (passage W.contents writer.old writer.new)) }
 {
     let (text, next) = lines_from(alloc, source, head, from, kept, observer)?;
     print_text(writer, text.as_slice())?;
@@ -150,8 +151,8 @@ pub fn print_entries<
         (AreLinesBetween head.now from head.now.size) (passage W.contents writer.old writer.new)) }
     ensures part { OnErr result (PrintedSome (λ text. (upto : ℕ)
         × AreLinesBetween head.now from upto text) (passage W.contents writer.old writer.new)) }
-    ensures refused { IfErr result
-        (RefusesAll (S.may_answer source.now) (S.may_lack source.now) head.now from) }
+    ensures refused { IfErr result (λ fault. RefusesAll (S.may_answer source.now)
+        (S.may_lack source.now) head.now from fault (passage W.contents writer.old writer.new)) }
 {
     if from > head.size {
         return Err(FetchFault::Run(RunFault::BadIndex));

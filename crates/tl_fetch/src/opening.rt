@@ -3,7 +3,7 @@
 ghost use Rattle.std.specs.Prelude.{◌≡◌, IfErr, IfOk, map, option_map, string_bytes};
 ghost use Rattle.tl_tile.specs.declared.resource.Resource.TheVariants.{Checkpoint};
 ghost use Rattle.tl_fetch.specs.Faults.{IsNoAccusation};
-ghost use Rattle.tl_fetch.specs.Fetching.{LacksLast, LacksTrust, grounds_of};
+ghost use Rattle.tl_fetch.specs.Fetching.{LacksLast, LacksTrust, unseen_of};
 ghost use Rattle.tl_fetch.specs.Inner.Trusted.{RefusesText};
 ghost use Rattle.tl_fetch.specs.Opening.{RefusesCheckpoint, RefusesNote, RefusesState, after_state};
 ghost use Rattle.tl_fetch.specs.Trusting.{IsKnown, IsNoteOf, policy_of};
@@ -152,6 +152,8 @@ fn trusted_now<S: ResourceSource>(
     source: &S,
     policy: &Policy<'_>,
 ) -> Result<Trusted<String>, FetchFault>
+    ensures answered { IfOk result
+        (λ t. S.may_answer source.now Checkpoint (string_bytes t.note)) }
     ensures trusted { IfOk result
         (λ t. IsNoteOf (policy_of policy.now.origin.now (map (λ v. key v) policy.now.log.now) (map
         (λ w. key w) policy.now.witnesses.now) policy.now.need policy.now.since)
@@ -183,12 +185,14 @@ pub(crate) fn trusted_two<S: ResourceSource, K: TrustStore>(
     ensures known { IfOk result (λ t. IsKnown (policy_of policy.now.origin.now (map (λ v.
         key v) policy.now.log.now) (map (λ w. key w) policy.now.witnesses.now) policy.now.need
         policy.now.since) (option_map string_bytes t.0.note) t.0.head) }
+    ensures answered { IfOk result
+        (λ t. S.may_answer source.now Checkpoint (string_bytes t.1.note)) }
     ensures trusted { IfOk result (λ t. IsNoteOf
         (policy_of policy.now.origin.now (map (λ v. key v) policy.now.log.now) (map (λ w.
         key w) policy.now.witnesses.now) policy.now.need policy.now.since)
         (string_bytes t.1.note) t.1.head) }
     ensures fair { IfErr result IsNoAccusation }
-    ensures refused { IfErr result (LacksTrust (grounds_of (S.may_answer source.now)
+    ensures refused { IfErr result (LacksTrust (unseen_of (S.may_answer source.now)
         (S.may_lack source.now) (K.may_have state.now) (K.may_fail state.now)) (policy_of
         policy.now.origin.now (map (λ v. key v) policy.now.log.now)
         (map (λ w. key w) policy.now.witnesses.now) policy.now.need policy.now.since)) }

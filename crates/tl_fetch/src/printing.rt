@@ -5,7 +5,7 @@ ghost use Rattle.sha2.specs.Sha256.{sha256};
 ghost use Rattle.tl_command.specs.ProofShown.{inclusion_shown};
 ghost use Rattle.tl_device.specs.Device.{passage};
 ghost use Rattle.tl_fetch.specs.Entries.{IsCheckedEntry, RefusesLeaf, RefusesOne, RefusesProof};
-ghost use Rattle.tl_fetch.specs.Printed.{FailsPrinting, IsEntryText, IsProofOf, IsProofText, PrintedSome, PrintedWhole, head_text};
+ghost use Rattle.tl_fetch.specs.Printed.{FailsChecking, FailsPrinting, FailsWriting, IsEntryText, IsProofOf, IsProofText, PrintedSome, PrintedWhole, head_text};
 
 use crate::entry::fetch_entry;
 use crate::fault::FetchFault;
@@ -50,7 +50,8 @@ pub fn print_head<A: Allocator + Copy, W: Write>(
     ensures part { OnErr result (PrintedSome
         (λ text. text ≡ head_text origin.now head.now) (passage W.contents writer.old writer.new)) }
     ensures refused { IfErr result (λ fault.
-        (fault ≡ FetchFault.Run RunFault.Write) ⊎ (fault ≡ FetchFault.Run RunFault.OutOfMemory)) }
+        FailsWriting fault (passage W.contents writer.old writer.new)
+        ⊎ (fault ≡ FetchFault.Run RunFault.OutOfMemory)) }
 {
     let text = head_lines(alloc, origin, head)?;
     print_text(writer, text.as_bytes())?;
@@ -71,8 +72,9 @@ pub fn print_entry<S: ResourceSource, A: Allocator + Copy, O: Observer, W: Write
         (PrintedWhole (IsEntryText head.now index) (passage W.contents writer.old writer.new)) }
     ensures part { OnErr result
         (PrintedSome (IsEntryText head.now index) (passage W.contents writer.old writer.new)) }
-    ensures refused { IfErr result (FailsPrinting
-        (RefusesOne (S.may_answer source.now) (S.may_lack source.now) head.now index)) }
+    ensures refused { IfErr result (λ fault. FailsPrinting
+        (RefusesOne (S.may_answer source.now) (S.may_lack source.now) head.now index) fault
+        (passage W.contents writer.old writer.new)) }
 {
     let mut text = match fetch_entry(alloc, source, head, index, observer) {
         Ok(entry) => entry,
@@ -97,8 +99,9 @@ pub fn print_raw<S: ResourceSource, A: Allocator + Copy, O: Observer, W: Write>(
         (passage W.contents writer.old writer.new)) }
     ensures part { OnErr result (PrintedSome (IsCheckedEntry sha256 head.now index)
         (passage W.contents writer.old writer.new)) }
-    ensures refused { IfErr result (FailsPrinting
-        (RefusesOne (S.may_answer source.now) (S.may_lack source.now) head.now index)) }
+    ensures refused { IfErr result (λ fault. FailsPrinting
+        (RefusesOne (S.may_answer source.now) (S.may_lack source.now) head.now index) fault
+        (passage W.contents writer.old writer.new)) }
 {
     let entry = match fetch_entry(alloc, source, head, index, observer) {
         Ok(entry) => entry,
@@ -117,7 +120,7 @@ fn proof_of<S: ResourceSource, A: Allocator + Copy>(
     entry: &[u8],
 ) -> Result<InclusionProof<A>, FetchFault>
     ensures proof { IfOk result (λ p. IsProofOf head.now index entry.now (inclusion_shown p)) }
-    ensures refused { IfErr result (FailsPrinting
+    ensures refused { IfErr result (FailsChecking
         (RefusesLeaf (S.may_answer source.now) (S.may_lack source.now) head.now index)) }
 {
     let leaf = leaf_hash(Sha256Tree, entry);
@@ -143,7 +146,7 @@ fn proof_text<S: ResourceSource, A: Allocator + Copy, O: Observer>(
     observer: &mut O,
 ) -> Result<Vec<u8, A>, FetchFault>
     ensures text { IfOk result (λ text. IsProofText head.now index text.items) }
-    ensures refused { IfErr result (FailsPrinting
+    ensures refused { IfErr result (FailsChecking
         (RefusesProof (S.may_answer source.now) (S.may_lack source.now) head.now index)) }
 {
     let entry = match fetch_entry(alloc, source, head, index, observer) {
@@ -169,8 +172,9 @@ pub fn print_proof<S: ResourceSource, A: Allocator + Copy, O: Observer, W: Write
         (PrintedWhole (IsProofText head.now index) (passage W.contents writer.old writer.new)) }
     ensures part { OnErr result
         (PrintedSome (IsProofText head.now index) (passage W.contents writer.old writer.new)) }
-    ensures refused { IfErr result (FailsPrinting
-        (RefusesProof (S.may_answer source.now) (S.may_lack source.now) head.now index)) }
+    ensures refused { IfErr result (λ fault. FailsPrinting
+        (RefusesProof (S.may_answer source.now) (S.may_lack source.now) head.now index) fault
+        (passage W.contents writer.old writer.new)) }
 {
     let text = proof_text(alloc, source, head, index, observer)?;
     print_text(writer, text.as_slice())?;

@@ -1,12 +1,12 @@
 //! Fetches from any source, with any store for the state.
 
-ghost use Rattle.std.specs.Prelude.{◌≡◌, ◌≢◌, ◌⊎◌, ℕ, IfErr, OnErr, OnOk, map, option_map, string_bytes};
+ghost use Rattle.std.specs.Prelude.{◌≡◌, ◌≢◌, IfErr, OnErr, OnOk, map, option_map, string_bytes};
 ghost use Rattle.tl_device.specs.Device.{IsUnwritten, passage};
 ghost use Rattle.tl_fetch.specs.Entries.{AreLinesBetween};
 ghost use Rattle.tl_fetch.specs.Faults.{IsNoAccusation};
-ghost use Rattle.tl_fetch.specs.Fetching.{HasFetched, HasPrinted, RefusesFetch, RefusesGrown, first_wanted, grounds_of};
+ghost use Rattle.tl_fetch.specs.Fetching.{FailsAll, FailsGrown, HasFetched, HasPrinted, RefusesFetch, RefusesGrown, first_wanted, grounds_of};
 ghost use Rattle.tl_fetch.specs.Inner.Judging.{JudgesTwo, two_of};
-ghost use Rattle.tl_fetch.specs.Printed.{IsBegun, IsWanted, PrintedSome, PrintedWhole, RefusesAll, RefusesWanted};
+ghost use Rattle.tl_fetch.specs.Printed.{IsBegun, IsWanted, PrintedSome, PrintedWhole, RefusesWanted};
 ghost use Rattle.tl_fetch.specs.Trusting.{IsGrown, IsKnown, IsNoteOf, policy_of};
 
 use crate::fault::FetchFault;
@@ -47,8 +47,9 @@ fn print_asked<S: ResourceSource + AsksHost, H: HostClient, O: Observer, W: Writ
     ensures part { OnErr result (PrintedSome (IsBegun policy.now.origin.now
         asked.known head.now asked.wanted) (passage W.contents writer.old writer.new)) }
     ensures fair { IfErr result IsNoAccusation }
-    ensures refused { IfErr result (RefusesWanted (S.may_answer source.now) (S.may_lack source.now)
-        asked.known head.now asked.wanted) }
+    ensures refused { IfErr result (λ fault. RefusesWanted (S.may_answer source.now)
+        (S.may_lack source.now) asked.known head.now asked.wanted fault
+        (passage W.contents writer.old writer.new)) }
 {
     match asked.wanted {
         FetchRequest::Head => print_head(alloc, policy.origin, head, writer),
@@ -79,6 +80,7 @@ fn keep_and_print<
     observer: &mut O,
     writer: &mut Counted<W>,
 ) -> Result<(), FetchFault>
+    requires had { K.may_have state.old (option_map (λ s. s.now) step.now.last) }
     requires known { IsKnown (policy_of policy.now.origin.now (map (λ v. key v) policy.now.log.now)
         (map (λ w. key w) policy.now.witnesses.now) policy.now.need policy.now.since)
         (option_map (λ s. s.now) step.now.last) step.now.old.now }
@@ -90,21 +92,27 @@ fn keep_and_print<
     ensures printed { OnOk result (PrintedWhole (IsWanted policy.now.origin.now
         step.now.old.now.size step.now.new.now wanted) (passage W.contents writer.old writer.new)) }
     ensures kept { OnOk result (K.has_kept state.new step.now.note.now) }
-    ensures part { OnErr result (PrintedSome (IsBegun policy.now.origin.now
-        step.now.old.now.size step.now.new.now wanted) (passage W.contents writer.old writer.new)) }
-    ensures fair { IfErr result IsNoAccusation }
-    ensures refused { IfErr result (λ fault. K.may_fail state.old fault
-        ⊎ RefusesWanted (S.may_answer source.now) (S.may_lack source.now)
-        step.now.old.now.size step.now.new.now wanted fault) }
+    ensures refused { IfErr result (λ fault. FailsGrown
+        (grounds_of (S.may_answer source.now) (S.may_lack source.now) (K.may_have state.old)
+        (K.may_fail state.old) (state.new ≡ state.old) (K.has_kept state.new))
+        (policy_of policy.now.origin.now (map (λ v. key v) policy.now.log.now)
+        (map (λ w. key w) policy.now.witnesses.now) policy.now.need policy.now.since) wanted
+        (two_of (option_map (λ s. s.now) step.now.last) step.now.old.now step.now.note.now
+        step.now.new.now) fault (passage W.contents writer.old writer.new)) }
 {
-    state.keep(policy, step.last, step.note)?;
+    if let Err(fault) = state.keep(policy, step.last, step.note) {
+        return Err(fault);
+    }
     let asked = Task {
         wanted,
         known: step.old.size,
     };
-    print_asked(
+    match print_asked(
         alloc, source, requests, policy, step.new, asked, observer, writer,
-    )
+    ) {
+        Ok(()) => Ok(()),
+        Err(fault) => Err(fault),
+    }
 }
 
 // Prints all entries from this index on, and then keeps the new note, first as the trusted one and then as that of
@@ -129,6 +137,7 @@ fn print_and_keep<
     observer: &mut O,
     writer: &mut Counted<W>,
 ) -> Result<(), FetchFault>
+    requires had { K.may_have state.old (option_map (λ s. s.now) step.now.last) }
     requires known { IsKnown (policy_of policy.now.origin.now (map (λ v. key v) policy.now.log.now)
         (map (λ w. key w) policy.now.witnesses.now) policy.now.need policy.now.since)
         (option_map (λ s. s.now) step.now.last) step.now.old.now }
@@ -137,6 +146,7 @@ fn print_and_keep<
         (λ w. key w) policy.now.witnesses.now) policy.now.need policy.now.since)
         step.now.note.now step.now.new.now }
     requires grown { IsGrown step.now.old.now step.now.new.now }
+    requires had_marked { C.may_have printed.old (option_map (λ s. s.now) since.now.last) }
     requires marked { IsKnown (policy_of policy.now.origin.now (map (λ v. key v) policy.now.log.now)
         (map (λ w. key w) policy.now.witnesses.now) policy.now.need policy.now.since)
         (option_map (λ s. s.now) since.now.last) since.now.old.now }
@@ -145,17 +155,27 @@ fn print_and_keep<
         from step.now.new.now.size) (passage W.contents writer.old writer.new)) }
     ensures kept { OnOk result (K.has_kept state.new step.now.note.now) }
     ensures marked { OnOk result (C.has_kept printed.new step.now.note.now) }
-    ensures part { OnErr result (PrintedSome (λ text. (upto : ℕ) × AreLinesBetween step.now.new.now
-        from upto text) (passage W.contents writer.old writer.new)) }
-    ensures fair { IfErr result IsNoAccusation }
-    ensures refused { IfErr result (λ fault.
-        (K.may_fail state.old fault ⊎ C.may_fail printed.old fault) ⊎ RefusesAll
-        (S.may_answer source.now) (S.may_lack source.now) step.now.new.now from fault) }
+    ensures refused { IfErr result (λ fault. FailsAll
+        (grounds_of (S.may_answer source.now) (S.may_lack source.now) (K.may_have state.old)
+        (K.may_fail state.old) (state.new ≡ state.old) (K.has_kept state.new))
+        (grounds_of (S.may_answer source.now) (S.may_lack source.now) (C.may_have printed.old)
+        (C.may_fail printed.old) (printed.new ≡ printed.old) (C.has_kept printed.new))
+        (policy_of policy.now.origin.now (map (λ v. key v) policy.now.log.now)
+        (map (λ w. key w) policy.now.witnesses.now) policy.now.need policy.now.since) from
+        (two_of (option_map (λ s. s.now) step.now.last) step.now.old.now step.now.note.now
+        step.now.new.now) fault (passage W.contents writer.old writer.new)) }
 {
     let note = step.note;
-    print_entries(alloc, source, requests, step.new, from, observer, writer)?;
-    state.keep(policy, step.last, note)?;
-    printed.keep(policy, since.last, note)
+    if let Err(fault) = print_entries(alloc, source, requests, step.new, from, observer, writer) {
+        return Err(fault);
+    }
+    if let Err(fault) = state.keep(policy, step.last, note) {
+        return Err(fault);
+    }
+    match printed.keep(policy, since.last, note) {
+        Ok(()) => Ok(()),
+        Err(fault) => Err(fault),
+    }
 }
 
 // Returns the index from which on all entries are printed: behind those that were printed, or else behind those that
@@ -212,6 +232,7 @@ fn fetch_all<
     observer: &mut O,
     writer: &mut Counted<W>,
 ) -> Result<(), FetchFault>
+    requires had { K.may_have state.old (option_map (λ s. s.now) step.now.last) }
     requires known { IsKnown (policy_of policy.now.origin.now (map (λ v. key v) policy.now.log.now)
         (map (λ w. key w) policy.now.witnesses.now) policy.now.need policy.now.since)
         (option_map (λ s. s.now) step.now.last) step.now.old.now }
@@ -227,10 +248,10 @@ fn fetch_all<
         (passage W.contents writer.old writer.new)) }
     ensures kept { OnOk result (K.has_kept state.new step.now.note.now) }
     ensures refused { IfErr result (λ fault. RefusesGrown
-        (grounds_of (S.may_answer source.now) (S.may_lack source.now)
-        (K.may_have state.old) (K.may_fail state.old))
-        (grounds_of (S.may_answer source.now) (S.may_lack source.now)
-        (C.may_have printed.old) (C.may_fail printed.old))
+        (grounds_of (S.may_answer source.now) (S.may_lack source.now) (K.may_have state.old)
+        (K.may_fail state.old) (state.new ≡ state.old) (K.has_kept state.new))
+        (grounds_of (S.may_answer source.now) (S.may_lack source.now) (C.may_have printed.old)
+        (C.may_fail printed.old) (printed.new ≡ printed.old) (C.has_kept printed.new))
         (policy_of policy.now.origin.now (map (λ v. key v) policy.now.log.now) (map (λ w. key w)
         policy.now.witnesses.now) policy.now.need policy.now.since) FetchRequest.All (two_of
         (option_map (λ s. s.now) step.now.last) step.now.old.now step.now.note.now
@@ -280,6 +301,7 @@ fn fetch_grown<
     observer: &mut O,
     writer: &mut Counted<W>,
 ) -> Result<(), FetchFault>
+    requires had { K.may_have state.old (option_map (λ s. s.now) step.now.last) }
     requires known { IsKnown (policy_of policy.now.origin.now (map (λ v. key v) policy.now.log.now)
         (map (λ w. key w) policy.now.witnesses.now) policy.now.need policy.now.since)
         (option_map (λ s. s.now) step.now.last) step.now.old.now }
@@ -296,10 +318,10 @@ fn fetch_grown<
     ensures kept { OnOk result (K.has_kept state.new step.now.note.now) }
     ensures unmoved { wanted ≢ FetchRequest.All → printed.new ≡ printed.old }
     ensures refused { IfErr result (λ fault. RefusesGrown
-        (grounds_of (S.may_answer source.now) (S.may_lack source.now)
-        (K.may_have state.old) (K.may_fail state.old))
-        (grounds_of (S.may_answer source.now) (S.may_lack source.now)
-        (C.may_have printed.old) (C.may_fail printed.old))
+        (grounds_of (S.may_answer source.now) (S.may_lack source.now) (K.may_have state.old)
+        (K.may_fail state.old) (state.new ≡ state.old) (K.has_kept state.new))
+        (grounds_of (S.may_answer source.now) (S.may_lack source.now) (C.may_have printed.old)
+        (C.may_fail printed.old) (printed.new ≡ printed.old) (C.has_kept printed.new))
         (policy_of policy.now.origin.now (map (λ v. key v) policy.now.log.now) (map (λ w. key w)
         policy.now.witnesses.now) policy.now.need policy.now.since) wanted (two_of
         (option_map (λ s. s.now) step.now.last) step.now.old.now step.now.note.now
@@ -339,7 +361,7 @@ pub fn fetch_under<
     observer: &mut O,
     writer: &mut Counted<W>,
 ) -> Result<(), FetchFault>
-    ensures fetched { OnOk result (HasFetched
+    ensures fetched { OnOk result (HasFetched (S.may_answer source.now)
         (record { may_have = K.may_have state.old; has_kept = K.has_kept state.new })
         (record { may_have = C.may_have printed.old; has_kept = C.has_kept printed.new })
         (policy_of policy.now.origin.now (map (λ v. key v) policy.now.log.now)
@@ -347,10 +369,10 @@ pub fn fetch_under<
         (passage W.contents writer.old writer.new)) }
     ensures unmoved { wanted ≢ FetchRequest.All → printed.new ≡ printed.old }
     ensures refused { IfErr result (λ fault. RefusesFetch
-        (grounds_of (S.may_answer source.now) (S.may_lack source.now)
-        (K.may_have state.old) (K.may_fail state.old))
-        (grounds_of (S.may_answer source.now) (S.may_lack source.now)
-        (C.may_have printed.old) (C.may_fail printed.old))
+        (grounds_of (S.may_answer source.now) (S.may_lack source.now) (K.may_have state.old)
+        (K.may_fail state.old) (state.new ≡ state.old) (K.has_kept state.new))
+        (grounds_of (S.may_answer source.now) (S.may_lack source.now) (C.may_have printed.old)
+        (C.may_fail printed.old) (printed.new ≡ printed.old) (C.has_kept printed.new))
         (policy_of policy.now.origin.now (map (λ v. key v) policy.now.log.now)
         (map (λ w. key w) policy.now.witnesses.now) policy.now.need policy.now.since) wanted fault
         (passage W.contents writer.old writer.new)) }

@@ -28,14 +28,15 @@ pub trait TrustStore {
         ensures fair { IfErr result IsNoAccusation };
 
     /// Keeps a note in place of the last one. It is only called for a trusted note whose log extends the one known by
-    /// the last note, by an accepted consistency proof.
+    /// the last note, by an accepted consistency proof. `last` is what the store gave.
     fn keep(
         &mut self,
         policy: &Policy<'_>,
         last: Option<&str>,
         note: &str,
     ) -> Result<(), FetchFault>
-        requires { IsNext (policy_of policy.now.origin.now (map (λ v. key v) policy.now.log.now)
+        requires had { may_have self.old (option_map (λ s. s.now) last) }
+        requires next { IsNext (policy_of policy.now.origin.now (map (λ v. key v) policy.now.log.now)
             (map (λ w. key w) policy.now.witnesses.now) policy.now.need policy.now.since)
             (option_map (λ s. s.now) last) note.now }
         ensures kept { OnOk result (has_kept self.new note.now) }

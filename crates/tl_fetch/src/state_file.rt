@@ -1,5 +1,6 @@
 //! A state in a file.
 
+ghost use Rattle.std.specs.Prelude.{◌≡◌, IfErr, IfOk, IsSomeAnd, IsUtf8, option_map, string_bytes, vec_items};
 ghost use Rattle.tl_fetch.specs.Command.{IsStateFault};
 ghost use Rattle.tl_fetch.specs.Faults.{IsNoAccusation};
 
@@ -23,6 +24,24 @@ pub(crate) fn file_refusal(fault: DeviceFault) -> FetchFault
     FetchFault::Run(RunFault::of_device(Place::State, fault))
 }
 
+// Returns the note that the bytes of a state's file are, if there is a file. It fails with `BadCheckpoint` of the
+// state if they are no text.
+fn note_of(bytes: Option<Vec<u8>>) -> Result<Option<String>, FetchFault>
+    ensures text { IfOk result
+        (λ note. option_map string_bytes note ≡ option_map vec_items bytes) }
+    ensures refused { IfErr result (λ fault.
+        (fault ≡ FetchFault.Run (RunFault.BadCheckpoint Place.State))
+        × IsSomeAnd bytes (λ b. ¬ (IsUtf8 (vec_items b)))) }
+{
+    let Some(bytes) = bytes else {
+        return Ok(None);
+    };
+    match String::from_utf8(bytes) {
+        Ok(note) => Ok(Some(note)),
+        Err(_) => Err(FetchFault::Run(RunFault::BadCheckpoint(Place::State))),
+    }
+}
+
 /// A state whose file has the note.
 #[derive(Drop)]
 pub struct FileState<'s, H: Files>(pub AtomicFile<'s, H>);
@@ -37,14 +56,9 @@ impl<H: Files<File = File>> TrustStore for FileState<'_, H> {
     ghost may_fail = { λ _ fault. IsStateFault fault };
 
     fn last(&self, alloc: Global) -> Result<Option<String>, FetchFault> {
-        let bytes = match self.0.read(alloc, MOST) {
-            Ok(Some(bytes)) => bytes,
-            Ok(None) => return Ok(None),
-            Err(fault) => return Err(file_refusal(fault)),
-        };
-        match String::from_utf8(bytes) {
-            Ok(note) => Ok(Some(note)),
-            Err(_) => Err(FetchFault::Run(RunFault::BadCheckpoint(Place::State))),
+        match self.0.read(alloc, MOST) {
+            Ok(bytes) => note_of(bytes),
+            Err(fault) => Err(file_refusal(fault)),
         }
     }
 

@@ -8,14 +8,13 @@ use Rattle.tl_tile.specs.declared.resource.Resource.{Resource}
 use Rattle.tl_proof.specs.Acceptance.{AcceptsConsistency}
 use Rattle.tl_checkpoint.specs.Checkpoint as checkpoint
 use Rattle.tl_command.specs.ProofText.{Consistency}
-use Rattle.tl_run.specs.declared.fault.RunFault.TheVariants.{Write}
 use Rattle.tl_fork.specs.Evidence.{Disagree}
 use Rattle.tl_fetch.specs.declared.fault.FetchFault.{FetchFault}
 use Rattle.tl_fetch.specs.declared.fault.FetchFault.TheVariants.{Run, Forked}
 use Rattle.tl_fetch.specs.Evidence.{evidence_text}
 use Rattle.tl_fetch.specs.Faults.{bad_checkpoint}
 use Rattle.tl_fetch.specs.Fetching.{IsUnaccused}
-use Rattle.tl_fetch.specs.Printed.{PrintedSome, PrintedWhole}
+use Rattle.tl_fetch.specs.Printed.{FailsWriting, PrintedSome, PrintedWhole}
 use Rattle.tl_fetch.specs.Trusting.{Two}
 
 abbrev pub two_of : Option Bytes → Head → Bytes → Head → Two
@@ -32,7 +31,7 @@ pub record LeadsTo (old : ℕ) (larger : Head) (p : Consistency) : Type 0 where
   pub root_is : p.root ≡ larger.root
   pub accepted : AcceptsConsistency sha256 p.proof p.size p.root p.old p.old_root
 
--- two heads disagree, and both notes were printed with what shows it, or some of that until the writer failed; or
+-- two heads disagree, and both notes were printed with what shows it, or the writer failed after some of that; or
 -- there is only one note
 abbrev pub Accuses : Two → FetchFault → Passage → Type 0
 Accuses two fault o =
@@ -40,7 +39,7 @@ Accuses two fault o =
     × (((two.last ≡ None) × (fault ≡ Run bad_checkpoint) × IsUnwritten o)
     ⊎ ((last : Bytes) × (two.last ≡ Some last)
     × (((fault ≡ Forked) × PrintedWhole (λ text. text ≡ evidence_text last two.note shown) o)
-    ⊎ ((fault ≡ Run Write) × PrintedSome (λ text. text ≡ evidence_text last two.note shown) o))))
+    ⊎ (FailsWriting fault o × PrintedSome (λ text. text ≡ evidence_text last two.note shown) o))))
 
 -- one of the two doesn't extend the other
 abbrev pub JudgesTwo : (Resource → Bytes → Type 0) → (Resource → Type 0) → Two → FetchFault → Passage → Type 0

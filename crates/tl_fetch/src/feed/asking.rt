@@ -13,11 +13,20 @@ use tl_note::Verifier;
 /// Asks the witnesses of a policy, and reports why one gave no cosignature. Witnesses are counted from 0; the keys of
 /// one name that follow one another are one witness's.
 pub trait AsksWitnesses {
+    ghost use Rattle.std.specs.Prelude.{MatchOption, ℕ};
+
     /// Asks one witness. `AsksWitness` says what.
     type Asker: AsksWitness + Drop;
 
+    /// Whether the witness with an index can't be asked.
+    ghost lacks: { Self → ℕ → Type 0 };
+
+    /// Whether this asks the witness with an index.
+    ghost asks: { Self → ℕ → Self.Asker → Type 0 };
+
     /// Returns what asks the witness with this index, or None if it can't be asked.
-    fn asker(&self, place: usize) -> Option<Self::Asker>;
+    fn asker(&self, place: usize) -> Option<Self::Asker>
+        ensures { MatchOption result (lacks self.now place) (asks self.now place) };
 
     /// Reports why the witness with this index gave no cosignature.
     fn tell(&mut self, place: usize, why: Unasked);

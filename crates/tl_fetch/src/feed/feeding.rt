@@ -4,10 +4,12 @@ ghost use Rattle.std.specs.Prelude.{◌++◌, ◌≡◌, ◌⊎◌, ◌↔◌, �
 ghost use Rattle.tl_hash.specs.Bytes.{Bytes};
 ghost use Rattle.tl_device.specs.Device.{passage};
 ghost use Rattle.tl_fetch.specs.Faults.{IsNoAccusation};
-ghost use Rattle.tl_fetch.specs.Feeding.{HasFed, IsFedNote, IsUnfed, RefusesFeed};
+ghost use Rattle.tl_fetch.specs.Feeding.{HasFed, IsFedNote, IsUnfed, RefusesFed, RefusesFeed};
 ghost use Rattle.tl_fetch.specs.Fetching.{grounds_of};
+ghost use Rattle.tl_fetch.specs.Inner.Judging.{two_of};
 ghost use Rattle.tl_fetch.specs.Inner.Witnesses.{AreOfOne, IsOfAnother};
-ghost use Rattle.tl_fetch.specs.Printed.{PrintedSome, PrintedWhole};
+ghost use Rattle.tl_fetch.specs.Printed.{PrintedWhole};
+ghost use Rattle.tl_tile.specs.declared.resource.Resource.TheVariants.{Checkpoint};
 ghost use Rattle.tl_fetch.specs.Trusting.{AreTwo, IsGrown, IsKnown, IsNoteOf, Two, alone, policy_of};
 
 use crate::fault::FetchFault;
@@ -128,6 +130,7 @@ fn keep_and_feed<S: ResourceSource, K: TrustStore, Q: AsksWitnesses, W: Write>(
         (map (λ w. key w) log.now.witnesses.now) log.now.need log.now.since
         ≡ alone (policy_of policy.now.origin.now (map (λ v. key v) policy.now.log.now)
         (map (λ w. key w) policy.now.witnesses.now) policy.now.need policy.now.since) }
+    requires had { K.may_have state.old (option_map (λ s. s.now) step.now.last) }
     requires known { IsKnown (policy_of log.now.origin.now (map (λ v. key v) log.now.log.now)
         (map (λ w. key w) log.now.witnesses.now) log.now.need log.now.since)
         (option_map (λ s. s.now) step.now.last) step.now.old.now }
@@ -140,24 +143,26 @@ fn keep_and_feed<S: ResourceSource, K: TrustStore, Q: AsksWitnesses, W: Write>(
         (policy_of policy.now.origin.now (map (λ v. key v) policy.now.log.now)
         (map (λ w. key w) policy.now.witnesses.now) policy.now.need policy.now.since)
         step.now.note.now step.now.new.now) (passage W.contents writer.old writer.new)) }
-    ensures part { OnErr result (PrintedSome (IsFedNote
+    ensures refused { IfErr result (λ fault. RefusesFed
+        (grounds_of (S.may_answer source.now) (S.may_lack source.now) (K.may_have state.old)
+        (K.may_fail state.old) (state.new ≡ state.old) (K.has_kept state.new))
         (policy_of policy.now.origin.now (map (λ v. key v) policy.now.log.now)
         (map (λ w. key w) policy.now.witnesses.now) policy.now.need policy.now.since)
-        step.now.note.now step.now.new.now) (passage W.contents writer.old writer.new)) }
-    ensures fair { IfErr result IsNoAccusation }
-    ensures refused { IfErr result (λ fault. K.may_fail state.old fault
-        ⊎ (IsUnfed (policy_of policy.now.origin.now (map (λ v. key v) policy.now.log.now)
-        (map (λ w. key w) policy.now.witnesses.now) policy.now.need policy.now.since)
-        step.now.note.now fault ⊎ (fault ≡ FetchFault.Run RunFault.Write))) }
+        (two_of (option_map (λ s. s.now) step.now.last) step.now.old.now step.now.note.now
+        step.now.new.now) fault (passage W.contents writer.old writer.new)) }
 {
-    state.keep(log, step.last, step.note)?;
+    if let Err(fault) = state.keep(log, step.last, step.note) {
+        return Err(fault);
+    }
     let (note, head, known) = (step.note, step.new, step.old.size);
     let text = match cosigned(alloc, source, policy, note, head, known, asker) {
         Ok(text) => text,
         Err(fault) => return Err(fault),
     };
-    print_text(writer, text.as_bytes())?;
-    Ok(())
+    match print_text(writer, text.as_bytes()) {
+        Ok(()) => Ok(()),
+        Err(fault) => Err(FetchFault::Run(fault)),
+    }
 }
 
 /// Brings the checkpoint of the log of this policy before its witnesses (C2SP tlog-witness). The log has to have
@@ -175,14 +180,15 @@ pub fn feed_under<S: ResourceSource, K: TrustStore, O: Observer, Q: AsksWitnesse
     writer: &mut Counted<W>,
 ) -> Result<(), FetchFault>
     ensures fed { OnOk result ((two : Two) × AreTwo (K.may_have state.old)
-        (alone (policy_of policy.now.origin.now (map (λ v. key v) policy.now.log.now)
+        (S.may_answer source.now Checkpoint) (alone (policy_of policy.now.origin.now (map (λ v. key v) policy.now.log.now)
         (map (λ w. key w) policy.now.witnesses.now) policy.now.need policy.now.since)) two
         × HasFed (K.has_kept state.new)
         (policy_of policy.now.origin.now (map (λ v. key v) policy.now.log.now)
         (map (λ w. key w) policy.now.witnesses.now) policy.now.need policy.now.since) two
         (passage W.contents writer.old writer.new)) }
-    ensures refused { IfErr result (λ fault. RefusesFeed (grounds_of (S.may_answer source.now)
-        (S.may_lack source.now) (K.may_have state.old) (K.may_fail state.old))
+    ensures refused { IfErr result (λ fault. RefusesFeed
+        (grounds_of (S.may_answer source.now) (S.may_lack source.now) (K.may_have state.old)
+        (K.may_fail state.old) (state.new ≡ state.old) (K.has_kept state.new))
         (policy_of policy.now.origin.now (map (λ v. key v) policy.now.log.now)
         (map (λ w. key w) policy.now.witnesses.now) policy.now.need policy.now.since) fault
         (passage W.contents writer.old writer.new)) }

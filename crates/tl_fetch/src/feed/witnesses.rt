@@ -66,14 +66,23 @@ impl<H: Net<Stream = TcpStream> + Clock, E: Write> HttpWitnesses<'_, H, E> {
 }
 
 impl<'w, H: Net<Stream = TcpStream> + Clock, E: Write> AsksWitnesses for HttpWitnesses<'w, H, E> {
+    ghost use Rattle.std.specs.Prelude.{◌≡◌, ◌≤◌, length, slice_index_or};
+
     type Asker = HttpWitness<'w, H>;
 
+    ghost lacks = { λ w place. length w.urls.items ≤ place };
+
+    ghost asks = { λ w place asker. (asker.url ≡ slice_index_or w.urls.items place asker.url)
+        × (asker.limit ≡ w.limit) };
+
     fn asker(&self, place: usize) -> Option<HttpWitness<'w, H>> {
-        let url = *self.urls.get(place)?;
+        let Some(url) = self.urls.get(place) else {
+            return None;
+        };
         Some(HttpWitness {
             rt: self.rt,
             alloc: self.alloc,
-            url,
+            url: *url,
             limit: self.limit,
         })
     }

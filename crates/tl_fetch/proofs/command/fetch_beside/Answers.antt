@@ -9,4 +9,4 @@ returns-in-Err g c =
 
 pub returns : goal.returns
 returns g c =
-    runs_with (g.S.ResourceSource.may_answer c.args.source.now) (g.S.ResourceSource.may_lack c.args.source.now) _ _ _ _ _ wanted.All c.fetch_under.result _ c.fetch_under.ensures.fetched c.fetch_under.ensures.refused
+    runs_with (g.S.ResourceSource.may_answer c.args.source.now) (g.S.ResourceSource.may_lack c.args.source.now) _ _ _ _ _ _ _ wanted.All c.fetch_under.result _ c.fetch_under.ensures.fetched c.fetch_under.ensures.refused

@@ -8,7 +8,7 @@ returns-in-Err g c =
 
 pub returns : goal.returns
 returns g c =
-    runs_without (g.S.ResourceSource.may_answer c.args.source.now) (g.S.ResourceSource.may_lack c.args.source.now) _ _ _ _ _ _ _ c.args.wanted c.fetch_under.result _ c.in_default.not-All c.fetch_under.ensures.fetched c.fetch_under.ensures.refused
+    runs_without (g.S.ResourceSource.may_answer c.args.source.now) (g.S.ResourceSource.may_lack c.args.source.now) _ _ _ _ _ _ _ _ _ c.args.wanted c.fetch_under.result _ c.in_default.not-All c.fetch_under.ensures.fetched c.fetch_under.ensures.refused
 
 pub returns-in-All : goal.returns-in-All
 returns-in-All g c = rw (c.in-All.is) c.fetch_beside.ensures

@@ -4,7 +4,7 @@ use Rattle.tl_fetch.proofs.command.fetch_with_state.Goals as goal
 pub returns-in_default : goal.returns-in_default
 returns-in_default g c =
     no_state c.args.options.now.state (g.S.ResourceSource.may_answer c.args.source.now) (g.S.ResourceSource.may_lack c.args.source.now) _ c.args.options.now.wanted c.fetch_under.result _ c.in_default.is
-    (runs_with (g.S.ResourceSource.may_answer c.args.source.now) (g.S.ResourceSource.may_lack c.args.source.now) _ _ _ _ _ c.args.options.now.wanted c.fetch_under.result _ c.fetch_under.ensures.fetched c.fetch_under.ensures.refused)
+    (runs_with (g.S.ResourceSource.may_answer c.args.source.now) (g.S.ResourceSource.may_lack c.args.source.now) _ _ _ _ _ _ _ c.args.options.now.wanted c.fetch_under.result _ c.fetch_under.ensures.fetched c.fetch_under.ensures.refused)
 
 pub returns : goal.returns
 returns g c =

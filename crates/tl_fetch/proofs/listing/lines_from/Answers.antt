@@ -38,4 +38,4 @@ pub returns-clause-passed : goal.returns-clause-passed
 returns-clause-passed g c = c.in-Ok.ensures.passed
 
 pub returns-in-Err-clause-refused : goal.returns-in-Err-clause-refused
-returns-in-Err-clause-refused g c = inr (inr (c.in-Err.fault, c.in-Err.ensures.refused, c.client_refusal.ensures.value))
+returns-in-Err-clause-refused g c = inr (c.in-Err.fault, c.in-Err.ensures.refused, c.client_refusal.ensures.value)

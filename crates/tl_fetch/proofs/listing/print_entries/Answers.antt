@@ -1,6 +1,7 @@
 use Rattle.std.proofs.Common.{arith, refl, subst, ◌∙◌, ◌/◌}
 use Rattle.std.proofs.lemmas.Grind.{common_steps}
 use Rattle.tl_client.proofs.LeafReads.{none_passed}
+use Rattle.tl_device.specs.Device.{passage}
 use Rattle.tl_fetch.specs.Entries.{RefusesBundle}
 use Rattle.tl_fetch.specs.Printed.{FailsPrinting}
 use Rattle.tl_fetch.proofs.ListingLemmas.{refuses_all, printed_further, printed_some, printing_none}
@@ -12,11 +13,12 @@ returns-in-Err-clause-part g c = printed_some c.args.head.now c.args.from _ _ _ 
 pub returns-in-Err-clause-refused : goal.returns-in-Err-clause-refused
 returns-in-Err-clause-refused g c =
     let head = c.args.head.now in
-    let bundle = c.loop-next.next / 256 in
     let answers = g.S.ResourceSource.may_answer in
     let lacks = g.S.ResourceSource.may_lack in
-    refuses_all (answers c.args.source.now) (lacks c.args.source.now) head c.args.from bundle c.in-Err.fault
-    (subst (λ s. FailsPrinting (RefusesBundle (answers s) (lacks s) head bundle) c.in-Err.fault) (c.reach.ensures ∙ c.loop-next.invariant.2) c.in-Err.ensures.refused)
+    let o = passage g.W.Write.contents c.args.writer.now c.loop-next.writer in
+    let p = passage g.W.Write.contents c.loop-next.writer c.print_bundle.new.writer in
+    refuses_all (answers c.args.source.now) (lacks c.args.source.now) head c.args.from c.loop-next.next c.in-Err.fault o p c.loop-next.invariant.0 c.loop-next-test.true
+    (subst (λ s. FailsPrinting (RefusesBundle (answers s) (lacks s) head (c.loop-next.next / 256)) c.in-Err.fault p) (c.reach.ensures ∙ c.loop-next.invariant.2) c.in-Err.ensures.refused)
 
 pub loop-next-preserved : goal.loop-next-preserved
 loop-next-preserved g c = (

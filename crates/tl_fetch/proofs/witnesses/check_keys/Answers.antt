@@ -9,7 +9,8 @@ pub returns-then-is_among-clause-refused : goal.returns-then-is_among-clause-ref
 returns-then-is_among-clause-refused c =
     let key = c.in_ok-key.key in
     let among = subst (λ (ks : List Bytes). Contains ks key.key) c.as_slice.ensures.value (subst (λ (x : Bytes). Contains c.as_slice.result.now x) c.public_key.ensures c.if-is_among.ensures) in
-    (key, c.in_ok-key.ensures.read, c.loop-place.invariant.earlier key.key among)
+    let within = subst (λ (n : ℕ). c.loop-place.place < n) (sym (length-map (vec_items c.args.options.now.witnesses) string_bytes)) (omega (arith, c.loop-place-test.true, c.len-place-end.ensures)) in
+    (within, (key, c.in_ok-key.ensures.read, c.loop-place.invariant.earlier key.key among))
 
 pub loop-place-preserved : goal.loop-place-preserved
 loop-place-preserved c =
