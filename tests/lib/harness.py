@@ -8,6 +8,10 @@ import tempfile
 
 # Files of keys that the tests write are their owner's alone: `tlog` reports those that others can read.
 os.umask(0o077)
+# A signal that whoever runs the tests ignores, as in the background, isn't ignored by what the tests run.
+for each in (signal.SIGINT, signal.SIGHUP):
+    if signal.getsignal(each) == signal.SIG_IGN:
+        signal.signal(each, signal.SIG_DFL)
 
 TOP = os.path.dirname(os.path.dirname(os.path.dirname(os.path.realpath(__file__))))
 

@@ -6,7 +6,7 @@ import re
 from suite.keys import unpacked
 from suite.notes import (  # noqa: F401
     CONTROL, DIGITS, NAME, bytes_in, checkpoint_in, decoded, hash_in, hashes_in, note_in, number, request_in,
-                         signature_lines)
+    signature_lines)
 
 from .keys import ORIGIN, SeedKey, sum_of
 from .tree import grows, leaf, node, root, sha
