@@ -4,4 +4,5 @@ pub mod PolicyText
 pub mod ReadPolicy
 pub mod Cosigned
 pub mod Need
+pub mod Trust
 pub mod Inner
