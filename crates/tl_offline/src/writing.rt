@@ -8,11 +8,10 @@ ghost use Rattle.tl_offline.specs.WriteProof.{WritesProof};
 ghost use Rattle.tl_offline.specs.Inner.Typed.{IsTyped};
 
 use crate::proof::{MOST_HASHES, OfflineProof, WriteFault};
+use base64::display::Base64Display;
 use base64::engine::general_purpose::STANDARD;
-use itoa::Buffer;
 use std::alloc::{AllocError, Allocator};
 use tl_hash::Hash;
-use tl_text::push_line;
 
 // Appends the line of these extra data.
 fn push_data<A: Allocator>(out: &mut String<A>, bytes: &[u8]) -> Result<(), AllocError>
@@ -20,10 +19,7 @@ fn push_data<A: Allocator>(out: &mut String<A>, bytes: &[u8]) -> Result<(), Allo
         ≡ string_bytes out.old ++ extra_line (Some bytes.now)) }
     ensures lawful { IsBytes bytes.now }
 {
-    out.push_str("extra ")?;
-    STANDARD.encode_string(bytes, out)?;
-    out.push_str("\n")?;
-    Ok(())
+    writeln!(out, "extra {}", Base64Display::new(bytes, &STANDARD))
 }
 
 // Appends the line of the extra data, if there are any.
@@ -48,8 +44,7 @@ fn push_hashes<A: Allocator>(out: &mut String<A>, hashes: &[Hash]) -> Result<(),
     ensures each { OnOk result (All IsHash hashes.now) }
 {
     for hash in hashes {
-        STANDARD.encode_string(hash.as_bytes(), out)?;
-        out.push_str("\n")?;
+        writeln!(out, "{}", Base64Display::new(hash.as_bytes(), &STANDARD))?;
     }
     Ok(())
 }
@@ -64,8 +59,7 @@ fn lines_of<A: Allocator, B: Allocator>(
 {
     let mut out = String::from_str(alloc, "c2sp.org/tlog-proof@v1\n")?;
     push_extra(&mut out, &proof.extra)?;
-    out.push_str("index ")?;
-    push_line(&mut out, Buffer::new().format(proof.index))?;
+    writeln!(out, "index {}", proof.index)?;
     push_hashes(&mut out, &proof.hashes)?;
     out.push_str("\n")?;
     out.push_str(proof.note)?;
