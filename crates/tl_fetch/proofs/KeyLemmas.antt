@@ -1,14 +1,16 @@
 -- Public keys of witnesses, each its own, and those of the log.
-use Rattle.std.proofs.Common.{◌≡◌, ◌<◌, ◌+◌, ◌⊎◌, ◌++◌, ◌∷◌, [], List, ℕ, zero, suc, refl, sym, subst, inl, inr, arith, drop, length}
-use Rattle.std.specs.Prelude.{Contains}
-use Rattle.std.specs.List.{Any}
-use Rattle.std.proofs.lemmas.List.{drop_more}
+use Rattle.std.proofs.Common.{◌≡◌, ◌∙◌, ◌<◌, ◌≤◌, ◌+◌, ◌⊎◌, ◌++◌, ◌∷◌, [], List, ℕ, zero, suc, refl, sym, ap, subst, inl, inr, arith, drop, take, length, map}
+use Rattle.std.specs.Prelude.{Contains, slice_index_or}
+use Rattle.std.specs.List.{Any, AllZip}
+use Rattle.std.proofs.lemmas.List.{drop_more, map-append, take_all, take_more}
+use Rattle.std.proofs.lemmas.Slice.Zip.{all_zipped_more}
 use Rattle.std.proofs.lemmas.List.Elements.{Contains-append_cases}
 use Rattle.tl_hash.specs.Bytes.{Bytes}
 use Rattle.tl_key.specs.KeyText.{IsVerifierText}
+use Rattle.tl_note.specs.Key.{Key}
 use Rattle.tl_key.specs.NoteKey.{PublicKey, cosignature_kind, note_kind}
 use Rattle.tl_fetch.specs.declared.options.FetchOptions.{FetchOptions}
-use Rattle.tl_fetch.specs.Command.{HaveLogKeys, HaveOwnKeys, IsEarlierKey, IsTextOf, log_texts, public_keys, witness_text, witness_texts}
+use Rattle.tl_fetch.specs.Command.{HaveLogKeys, HaveOwnKeys, IsEarlierKey, IsTextOf, IsWitnessKey, log_texts, public_keys, witness_text, witness_texts}
 
 -- the texts before a place have keys of their own, of which these are all, with the log's
 pub record HaveOwnSoFar (options : FetchOptions) (log known : List Bytes) (place : ℕ) : Type 0 where
@@ -55,3 +57,19 @@ own_next options log known place k within spelled new so = record {
   among_next : (x : Bytes) → Contains known x ⊎ Contains (k.key ∷ []) x → IsEarlierKey options (place + 1) x
   among_next x (inl before) = later options place x (so.earlier x before)
   among_next x (inr this) = inr (place, omega arith, (k, spelled, only k.key x this))
+
+-- ---- the witnesses' keys, as they are read from their texts
+
+pub keys_none : (texts : List Bytes) (keys : List Key) → keys ≡ [] → AllZip IsWitnessKey (take 0 texts) keys
+keys_none texts keys none = subst (λ (ks : List Key). AllZip IsWitnessKey (take 0 texts) ks) (sym none) tt
+
+pub keys_more : {X : Type 0} (key_of : X → Key) (texts : List Bytes) (place : ℕ) (x : X) (xs more : List X) → place < length texts
+    → IsWitnessKey (slice_index_or texts place []) (key_of x) → more ≡ xs ++ x ∷ []
+    → AllZip IsWitnessKey (take place texts) (map key_of xs) → AllZip IsWitnessKey (take (place + 1) texts) (map key_of more)
+keys_more key_of texts place x xs more within is pushed so =
+    subst (λ (ks : List Key). AllZip IsWitnessKey (take (place + 1) texts) ks) (sym (ap (map key_of) pushed ∙ map-append key_of xs (x ∷ [])))
+    (subst (λ (ts : List Bytes). AllZip IsWitnessKey ts (map key_of xs ++ key_of x ∷ [])) (sym (take_more texts place [] within))
+    (all_zipped_more IsWitnessKey (take place texts) (map key_of xs) (slice_index_or texts place []) (key_of x) so is))
+
+pub keys_all : (texts : List Bytes) (place : ℕ) (keys : List Key) → length texts ≤ place → AllZip IsWitnessKey (take place texts) keys → AllZip IsWitnessKey texts keys
+keys_all texts place keys past so = subst (λ (ts : List Bytes). AllZip IsWitnessKey ts keys) (take_all place texts past) so

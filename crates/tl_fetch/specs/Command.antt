@@ -1,8 +1,9 @@
 -- The command `fetch` (C2SP signed-note, "Verifier keys").
 use Rattle.std.specs.Prelude.{◌≡◌, ◌≢◌, ◌⊎◌, ℕ, ◌-◌, ◌<◌, ◌≤◌, [], ◌∷◌, ◌++◌, List, Option, Some, None, Result, Ok, Err, String, Contains, IsSomeAnd, codes, length, map, string_bytes, vec_items, slice_index_or}
-use Rattle.std.specs.List.{Any}
+use Rattle.std.specs.List.{Any, AllZip}
 use Rattle.tl_hash.specs.Bytes.{Bytes}
 use Rattle.tl_key.specs.KeyText.{IsVerifierText}
+use Rattle.tl_note.specs.Key.{Key}
 use Rattle.tl_key.specs.NoteKey.{PublicKey, note_kind, cosignature_kind, verifier_key}
 use Rattle.tl_key.specs.Reading.{IsNoVerifierText}
 use Rattle.tl_device.specs.Device.{Passage, IsUnwritten}
@@ -53,6 +54,10 @@ witness_texts options = map string_bytes (vec_items options.witnesses)
 abbrev pub witness_text : FetchOptions → ℕ → Bytes
 witness_text options place = slice_index_or (witness_texts options) place []
 
+-- the key is the one of a witness that the text spells
+abbrev pub IsWitnessKey : Bytes → Key → Type 0
+IsWitnessKey text key = (k : PublicKey) × IsVerifierText cosignature_kind text k × (key ≡ verifier_key k)
+
 -- each text is a witness's key, whose public key is neither one of these nor that of a text before it
 abbrev pub HaveOwnKeys : List Bytes → List Bytes → Type 0
 HaveOwnKeys others [] = Unit {0}
@@ -65,12 +70,14 @@ abbrev pub IsSinceOf : Option ℕ → Option ℕ → Type 0
 IsSinceOf None since = since ≡ None
 IsSinceOf (Some seconds) since = (now : ℕ) × (since ≡ Some (now - seconds))
 
--- the policy of these options: a checkpoint is trusted if one of the log's keys signed it, and this many witnesses
--- cosigned it, one of them lately enough; no two of the keys are one public key, and no witness has a key of the log
+-- the policy of these options: a checkpoint is trusted if one of the log's keys signed it, and this many of the
+-- witnesses with these keys cosigned it, one of them lately enough; no two of the keys are one public key, and no
+-- witness has a key of the log
 pub record IsPolicyOf (options : FetchOptions) (policy : Policy) : Type 0 where
   pub keys : List PublicKey
   pub spelled : HaveLogKeys policy.origin (log_texts options) keys
   pub trusted : policy.trust.keys ≡ map verifier_key keys
+  pub witnesses : AllZip IsWitnessKey (witness_texts options) policy.trust.witnesses
   pub need : policy.trust.need ≡ options.need
   pub since : IsSinceOf options.fresh policy.since
   pub own : HaveOwnKeys (public_keys keys) (witness_texts options)

@@ -2,7 +2,8 @@
 
 ghost use Rattle.std.specs.Prelude.{◌≡◌, ◌++◌, string_bytes, IfErr, IfOk, codes, map};
 ghost use Rattle.tl_device.specs.Device.{passage};
-ghost use Rattle.tl_fetch.specs.Command.{HasScheme, IsOriginOf, IsSinceOf, IsStateFault, RunsFetch, RunsUnder, cached_answers, cached_lacks};
+ghost use Rattle.std.specs.List.{AllZip};
+ghost use Rattle.tl_fetch.specs.Command.{HasScheme, IsOriginOf, IsSinceOf, IsStateFault, IsWitnessKey, RunsFetch, RunsUnder, cached_answers, cached_lacks, witness_texts};
 ghost use Rattle.tl_fetch.specs.Inner.LogKeys.{AreTold, ToldBy, keys_of};
 ghost use Rattle.tl_fetch.specs.Inner.Naming.{Renames, RunsOver, RunsWith, told_as};
 ghost use Rattle.tl_fetch.specs.Trusting.{policy_of};
@@ -20,7 +21,7 @@ use crate::progress::Progress;
 use crate::run::fetch_under;
 use crate::state::NoState;
 use crate::state_file::{FileState, file_refusal};
-use crate::witnesses::witness_key;
+use crate::witnesses::{push_witness, witness_key};
 use std::alloc::{AllocError, Global};
 use std::fs::{File, Files};
 use std::io::Write;
@@ -309,6 +310,8 @@ fn fetch_as_told<'s, H: Files<File = File> + HostClient, W: Write, E: Write>(
     is_terminal: bool,
 ) -> Result<(), FetchFault>
     requires told { ToldBy options.now policy.now.origin.now (map (λ v. key v) policy.now.log.now) }
+    requires witnesses { AllZip IsWitnessKey (witness_texts options.now)
+        (map (λ w. key w) policy.now.witnesses.now) }
     requires need { policy.now.need ≡ options.now.need }
     requires since { IsSinceOf options.now.fresh policy.now.since }
     ensures { RunsFetch options.now (passage W.contents writer.old writer.new) result }
@@ -335,7 +338,7 @@ fn fetch_by<'s, H: Files<File = File> + HostClient, W: Write, E: Write>(
     let mut witnesses: Vec<Box<dyn Verifier>> = Vec::new(alloc);
     for place in 0..options.witnesses.len() {
         let key = witness_key(alloc, options, place)?;
-        witnesses.push(Box::new(alloc, key)?)?;
+        push_witness(&mut witnesses, options, place, Box::new(alloc, key)?)?;
     }
     let origin = String::from_str(alloc, keys.key.name())?;
     let witnesses = witnesses.as_slice();

@@ -1,7 +1,8 @@
 //! The witnesses' keys that the options name.
 
-ghost use Rattle.std.specs.Prelude.{◌≡◌, ◌<◌, ◌↔◌, List, Contains, IfErr, IfOk, IsTrue, MatchBool, MatchOption, OnOk, length, string_bytes, vec_items};
-ghost use Rattle.tl_fetch.specs.Command.{HaveLogKeys, HaveOwnKeys, IsKeyFault, log_texts, public_keys, witness_text, witness_texts};
+ghost use Rattle.std.specs.Prelude.{◌≡◌, ◌<◌, ◌+◌, ◌↔◌, List, Contains, IfErr, IfOk, IsTrue, MatchBool, MatchOption, OnOk, length, map, string_bytes, take, vec_items};
+ghost use Rattle.std.specs.List.{AllZip};
+ghost use Rattle.tl_fetch.specs.Command.{HaveLogKeys, HaveOwnKeys, IsKeyFault, IsWitnessKey, log_texts, public_keys, witness_text, witness_texts};
 ghost use Rattle.tl_key.specs.KeyText.{IsVerifierText};
 ghost use Rattle.tl_hash.specs.Bytes.{Bytes};
 ghost use Rattle.tl_key.specs.NoteKey.{PublicKey, cosignature_kind};
@@ -11,6 +12,7 @@ use crate::fault::FetchFault;
 use crate::options::FetchOptions;
 use std::alloc::{AllocError, Global};
 use tl_key::{Cosignature, CosignerVerifier, KeyFault, KeyKind, VerifierKey, read_verifier_key};
+use tl_note::Verifier;
 
 /// Returns the verifier key of this type whose text this is, or None if it is no such text.
 pub(crate) fn read_text<K: KeyKind>(
@@ -43,6 +45,25 @@ pub(crate) fn witness_key(
         Some(key) => Ok(key),
         None => Err(FetchFault::BadWitness(place as u64)),
     }
+}
+
+/// Appends the key of a witness to those before it, which the texts before the one with this index spell.
+pub(crate) fn push_witness(
+    witnesses: &mut Vec<Box<dyn Verifier>>,
+    options: &FetchOptions,
+    place: usize,
+    witness: Box<dyn Verifier>,
+) -> Result<(), FetchFault>
+    requires within { place < length (vec_items options.now.witnesses) }
+    requires spelled { IsWitnessKey (witness_text options.now place) (key witness) }
+    requires before { AllZip IsWitnessKey (take place (witness_texts options.now))
+        (map (λ w. key w) witnesses.old.items) }
+    ensures pushed { OnOk result (AllZip IsWitnessKey
+        (take (place + 1) (witness_texts options.now)) (map (λ w. key w) witnesses.new.items)) }
+    ensures refused { IfErr result (IsKeyFault options.now) }
+{
+    witnesses.push(witness)?;
+    Ok(())
 }
 
 /// Reports whether two public keys are the same.

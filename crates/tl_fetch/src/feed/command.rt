@@ -2,7 +2,8 @@
 
 ghost use Rattle.std.specs.Prelude.{◌≡◌, map};
 ghost use Rattle.tl_device.specs.Device.{passage};
-ghost use Rattle.tl_fetch.specs.Command.{IsSinceOf};
+ghost use Rattle.std.specs.List.{AllZip};
+ghost use Rattle.tl_fetch.specs.Command.{IsSinceOf, IsWitnessKey, witness_texts};
 ghost use Rattle.tl_fetch.specs.FeedCommand.{RunsFeed, RunsFeedUnder};
 ghost use Rattle.tl_fetch.specs.Inner.FeedRuns.{FeedsOver};
 ghost use Rattle.tl_fetch.specs.Inner.LogKeys.{AreTold, ToldBy, keys_of};
@@ -20,7 +21,7 @@ use crate::options::FetchOptions;
 use crate::policy::Policy;
 use crate::state::NoState;
 use crate::state_file::{FileState, file_refusal};
-use crate::witnesses::witness_key;
+use crate::witnesses::{push_witness, witness_key};
 use std::alloc::Global;
 use std::fs::{File, Files};
 use std::io::Write;
@@ -136,6 +137,8 @@ fn feed_as_told<'s, H: Files<File = File> + Net<Stream = TcpStream> + Clock, W: 
     errors: &'s mut Counted<E>,
 ) -> Result<(), FetchFault>
     requires told { ToldBy options.now.log policy.now.origin.now (map (λ v. key v) policy.now.log.now) }
+    requires witnesses { AllZip IsWitnessKey (witness_texts options.now.log)
+        (map (λ w. key w) policy.now.witnesses.now) }
     requires need { policy.now.need ≡ options.now.log.need }
     requires since { IsSinceOf options.now.log.fresh policy.now.since }
     ensures { RunsFeed options.now (passage W.contents writer.old writer.new) result }
@@ -161,7 +164,7 @@ fn feed_by<'s, H: Files<File = File> + Net<Stream = TcpStream> + Clock, W: Write
     let mut witnesses: Vec<Box<dyn Verifier>> = Vec::new(alloc);
     for place in 0..options.log.witnesses.len() {
         let key = witness_key(alloc, &options.log, place)?;
-        witnesses.push(Box::new(alloc, key)?)?;
+        push_witness(&mut witnesses, &options.log, place, Box::new(alloc, key)?)?;
     }
     let origin = String::from_str(alloc, keys.key.name())?;
     let witnesses = witnesses.as_slice();
