@@ -50,8 +50,8 @@ def example_of(part):
 
 
 def printed(program, *words):
-    """What a run of the program prints, which has to succeed."""
-    return subprocess.run([program, *words], stdin=subprocess.DEVNULL, stdout=subprocess.PIPE,
+    """What a run of the program prints, under the name of `tlog`, which has to succeed."""
+    return subprocess.run(['tlog', *words], executable=program, stdin=subprocess.DEVNULL, stdout=subprocess.PIPE,
                           check=True).stdout.decode()
 
 
