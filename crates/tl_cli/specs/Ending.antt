@@ -6,14 +6,17 @@ use Rattle.tl_run.specs.Faults.{device_status, exit_status}
 use Rattle.tl_run.specs.declared.fault.RunFault.{RunFault}
 use Rattle.tl_fetch.specs.FaultWords.{fetch_status}
 use Rattle.tl_fetch.specs.declared.fault.FetchFault.{FetchFault}
+use Rattle.tl_prove.specs.FaultWords.{prove_status}
+use Rattle.tl_prove.specs.declared.fault.ProveFault.{ProveFault}
 use Rattle.tl_serve.specs.declared.witness_fault.WitnessFault.{WitnessFault}
 use Rattle.tl_serve.specs.declared.witness_fault.WitnessFault.TheVariants as why
 use Rattle.tl_bucket.specs.declared.fault.BucketFault.{BucketFault}
 use Rattle.tl_bucket.specs.declared.fault.BucketFault.TheVariants as bucket
 use Rattle.tl_cli.specs.declared.fault.CommandFault.{CommandFault}
-use Rattle.tl_cli.specs.declared.fault.CommandFault.TheVariants.{Run, Fetch, Witness, Bucket, Credentials, KeyFile}
+use Rattle.tl_cli.specs.declared.fault.CommandFault.TheVariants.{Run, Fetch, Prove, Witness, Bucket, Credentials, KeyFile}
 
--- the outcome of a command that is neither `fetch` nor `witness`, of `fetch`, and of `witness`
+-- the outcome of a command that has no fault of its own, of `fetch` and `feed`, of `verify`, `prove` and `submit`,
+-- and of `witness`
 abbrev pub by_run : Result (Unit {0}) RunFault → Result (Unit {0}) CommandFault
 by_run (Ok done) = Ok done
 by_run (Err fault) = Err (Run fault)
@@ -21,6 +24,10 @@ by_run (Err fault) = Err (Run fault)
 abbrev pub by_fetch : Result (Unit {0}) FetchFault → Result (Unit {0}) CommandFault
 by_fetch (Ok done) = Ok done
 by_fetch (Err fault) = Err (Fetch fault)
+
+abbrev pub by_prove : Result (Unit {0}) ProveFault → Result (Unit {0}) CommandFault
+by_prove (Ok done) = Ok done
+by_prove (Err fault) = Err (Prove fault)
 
 abbrev pub by_witness : Result (Unit {0}) WitnessFault → Result (Unit {0}) CommandFault
 by_witness (Ok done) = Ok done
@@ -41,6 +48,7 @@ bucket_status fault = 1
 abbrev pub command_status : CommandFault → ℕ
 command_status (Run fault) = exit_status fault
 command_status (Fetch fault) = fetch_status fault
+command_status (Prove fault) = prove_status fault
 command_status (Witness fault) = witness_status fault
 command_status (Bucket fault) = bucket_status fault
 command_status (Credentials None) = 1

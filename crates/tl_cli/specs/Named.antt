@@ -7,12 +7,18 @@ use Rattle.tl_run.specs.declared.keys.LogKey.{LogKey}
 use Rattle.tl_run.specs.declared.keys.LogKey.TheVariants as key
 use Rattle.tl_fetch.specs.declared.fault.Address.{Address}
 use Rattle.tl_fetch.specs.declared.fault.Address.TheVariants.{From, To}
+use Rattle.tl_prove.specs.declared.fault.NamedFile.{NamedFile}
+use Rattle.tl_prove.specs.declared.fault.NamedFile.TheVariants as named
+use Rattle.tl_prove.specs.declared.options.EntryOptions.{EntryOptions}
+use Rattle.tl_prove.specs.declared.options.EntryOptions.TheVariants as entry
+use Rattle.tl_prove.specs.declared.options.ProveRequest.{ProveRequest}
+use Rattle.tl_prove.specs.declared.options.ProveRequest.TheVariants as request
 use Rattle.tl_serve.specs.declared.options.WitnessSignerKey.{WitnessSignerKey}
 use Rattle.tl_serve.specs.declared.options.WitnessSignerKey.TheVariants as cosigner
 use Rattle.tl_serve.specs.declared.options.KnownLogs.{KnownLogs}
 use Rattle.tl_serve.specs.declared.options.KnownLogs.TheVariants.{One, Listed}
 use Rattle.tl_cli.specs.declared.job.Job.{Job}
-use Rattle.tl_cli.specs.declared.job.Job.TheVariants.{BuildSigned, Append, AppendTo, CheckFork, CheckUnder, KeygenTo, Serve, ServeFrom, Witness, Fetch, Feed}
+use Rattle.tl_cli.specs.declared.job.Job.TheVariants.{BuildSigned, Append, AppendTo, CheckFork, CheckUnder, KeygenTo, Serve, ServeFrom, Witness, Fetch, Feed, Verify, Prove, Submit}
 
 -- the file of a key
 abbrev pub key_file : LogKey → Option Bytes
@@ -53,6 +59,8 @@ log_of job = None
 abbrev pub source_of : Job → Option Bytes
 source_of (Fetch options) = Some (string_bytes options.from)
 source_of (Feed options) = Some (string_bytes options.log.from)
+source_of (Prove options) = Some (string_bytes options.from)
+source_of (Submit options) = Some (string_bytes options.to)
 source_of job = None
 
 -- the file of the logs that a witness knows
@@ -74,6 +82,40 @@ credentials_of job = None
 abbrev pub new_key_of : Job → Option Bytes
 new_key_of (KeygenTo options) = Some (string_bytes options.out)
 new_key_of job = None
+
+-- the file of an entry, and that of the entry of which a proof is made
+abbrev pub entry_file : EntryOptions → Option Bytes
+entry_file (entry.Text text) = None
+entry_file (entry.File path) = Some (string_bytes path)
+entry_file (entry.Digest file name) = Some (string_bytes file)
+
+abbrev pub wanted_file : ProveRequest → Option Bytes
+wanted_file (request.Index index) = None
+wanted_file (request.Entry given) = entry_file given
+
+-- the files of `verify`, `prove` and `submit`: that of the policy, of the entry, and of the extra data
+abbrev pub policy_file : Job → Option Bytes
+policy_file (Verify options) = Some (string_bytes options.policy)
+policy_file (Prove options) = Some (string_bytes options.policy)
+policy_file (Submit options) = Some (string_bytes options.policy)
+policy_file job = None
+
+abbrev pub given_file : Job → Option Bytes
+given_file (Verify options) = entry_file options.entry
+given_file (Prove options) = wanted_file options.wanted
+given_file (Submit options) = entry_file options.entry
+given_file job = None
+
+abbrev pub extra_file : Job → Option Bytes
+extra_file (Verify options) = option_map string_bytes options.extra
+extra_file (Prove options) = option_map string_bytes options.extra
+extra_file (Submit options) = option_map string_bytes options.extra
+extra_file job = None
+
+abbrev pub named_file : Job → NamedFile → Option Bytes
+named_file job named.Policy = policy_file job
+named_file job named.Entry = given_file job
+named_file job named.Extra = extra_file job
 
 -- what the options name for a place
 abbrev pub base_of : Job → Place → Option Bytes

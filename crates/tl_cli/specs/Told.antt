@@ -14,6 +14,12 @@ use Rattle.tl_run.specs.declared.fault.RunFault.{RunFault}
 use Rattle.tl_run.specs.declared.fault.RunFault.TheVariants.{Device, BadCheckpoint, BadKey, BadKeyFile, NothingThere}
 use Rattle.tl_fetch.specs.FaultWords.{fetch_text}
 use Rattle.tl_fetch.specs.declared.fault.FetchFault.TheVariants as fetch
+use Rattle.tl_fetch.specs.declared.fault.FetchFault.{FetchFault}
+use Rattle.tl_fetch.specs.declared.fault.Address.TheVariants.{From}
+use Rattle.tl_prove.specs.FaultWords.{prove_words}
+use Rattle.tl_prove.specs.declared.fault.ProveFault.{ProveFault}
+use Rattle.tl_prove.specs.declared.fault.ProveFault.TheVariants as prove
+use Rattle.tl_prove.specs.declared.fault.NamedFile.TheVariants.{Policy}
 use Rattle.tl_source.specs.Asking.{IsTarget}
 use Rattle.tl_serve.specs.declared.witness_fault.WitnessFault.{WitnessFault}
 use Rattle.tl_serve.specs.declared.witness_fault.WitnessFault.TheVariants as why
@@ -21,7 +27,7 @@ use Rattle.tl_logs.specs.FaultWords.{logs_words}
 use Rattle.tl_bucket.specs.FaultWords.{bucket_words}
 use Rattle.tl_device.specs.declared.fault.DeviceFault.{DeviceFault}
 use Rattle.tl_cli.specs.declared.job.Job.{Job}
-use Rattle.tl_cli.specs.Named.{address_of, base_of, credentials_of, file_of, key_option, log_of, logs_file, new_key_of}
+use Rattle.tl_cli.specs.Named.{address_of, base_of, credentials_of, file_of, key_option, log_of, logs_file, named_file, new_key_of}
 use Rattle.tl_cli.specs.declared.fault.CommandFault.{CommandFault}
 use Rattle.tl_cli.specs.declared.fault.KeyFile.{KeyFile}
 use Rattle.tl_cli.specs.declared.fault.KeyFile.TheVariants.{Private, Public}
@@ -99,12 +105,32 @@ abbrev pub address_line : Option Bytes → Bytes
 address_line None = line (codes "tlog: " ++ codes "address" ++ codes ": " ++ codes "bad address")
 address_line (Some address) = line (codes "tlog: " ++ address ++ codes ": " ++ address_words (is_secure address))
 
+-- the line of a fault of `fetch` or `feed`, if it has one
+abbrev pub IsLineOfFetch : Job → FetchFault → Bytes → Type 0
+IsLineOfFetch job (fetch.Run other) text = IsLineOfRun job other text
+IsLineOfFetch job (fetch.BadAddress which) text = text ≡ address_line (address_of job which)
+IsLineOfFetch job other text = text ≡ line_or_none (fetch_text other)
+
+-- the line of a fault with these words, at a path, if there is one
+abbrev pub line_under : Option Bytes → Bytes → Bytes
+line_under None words = line (codes "tlog: " ++ codes "file" ++ codes ": " ++ words)
+line_under (Some path) words = line (codes "tlog: " ++ path ++ codes ": " ++ words)
+
+-- the line of a fault of `verify`, `prove` or `submit`, if it has one: of a file or an address, which is named, or
+-- of another kind
+abbrev pub IsLineOfProve : Job → ProveFault → Bytes → Type 0
+IsLineOfProve job (prove.Fetch other) text = IsLineOfFetch job other text
+IsLineOfProve job (prove.File which why) text = text ≡ line_under (named_file job which) (prove_words (prove.File which why))
+IsLineOfProve job prove.PolicyNotText text = text ≡ line_under (named_file job Policy) (prove_words prove.PolicyNotText)
+IsLineOfProve job (prove.Policy why) text = text ≡ line_under (named_file job Policy) (prove_words (prove.Policy why))
+IsLineOfProve job (prove.NotPosted why) text = text ≡ line_under (address_of job From) (prove_words (prove.NotPosted why))
+IsLineOfProve job other text = text ≡ line (codes "tlog: " ++ prove_words other)
+
 -- the line of a fault of a job, if it has one
 abbrev pub IsLineOf : Job → CommandFault → Bytes → Type 0
 IsLineOf job (fault.Run other) text = IsLineOfRun job other text
-IsLineOf job (fault.Fetch (fetch.Run other)) text = IsLineOfRun job other text
-IsLineOf job (fault.Fetch (fetch.BadAddress which)) text = text ≡ address_line (address_of job which)
-IsLineOf job (fault.Fetch other) text = text ≡ line_or_none (fetch_text other)
+IsLineOf job (fault.Fetch other) text = IsLineOfFetch job other text
+IsLineOf job (fault.Prove other) text = IsLineOfProve job other text
 IsLineOf job (fault.Witness other) text = IsLineOfWitness job other text
 IsLineOf job (fault.Bucket why) text = IsLineAt (log_of job) (place.Log None) (bucket_words why) text
 IsLineOf job (fault.Credentials why) text = text ≡ credentials_line (credentials_of job) why

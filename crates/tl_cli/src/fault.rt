@@ -3,22 +3,25 @@
 ghost use Rattle.std.specs.Prelude.{◌≡◌};
 ghost use Rattle.tl_cli.specs.declared.fault.CommandFault.TheVariants.{Run};
 ghost use Rattle.tl_run.specs.declared.fault.RunFault.TheVariants.{OutOfMemory};
-ghost use Rattle.tl_cli.specs.Ending.{by_fetch, by_run, by_witness, command_status, witness_status};
+ghost use Rattle.tl_cli.specs.Ending.{by_fetch, by_prove, by_run, by_witness, command_status, witness_status};
 
 use std::alloc::{AllocError, AllocFailed};
 use tl_bucket::BucketFault;
 use tl_device::DeviceFault;
 use tl_fetch::{FetchFault, fetch_exit_of};
+use tl_prove::{ProveFault, prove_exit_of};
 use tl_run::{Place, RunFault, exit_of};
 use tl_serve::WitnessFault;
 
 /// Why a command ends without success.
-#[derive(Clone, Copy, Debug, PartialEq, Eq)]
+#[derive(Clone, Copy, Debug)]
 pub enum CommandFault {
     /// A fault of another command than `fetch` and `witness`.
     Run(RunFault),
     /// A fault of `fetch`.
     Fetch(FetchFault),
+    /// A fault of `verify`, `prove` or `submit`.
+    Prove(ProveFault),
     /// A fault of `witness`.
     Witness(WitnessFault),
     /// A fault of a bucket.
@@ -56,6 +59,7 @@ pub(crate) fn command_exit_of(fault: &CommandFault) -> u8
     match fault {
         CommandFault::Run(fault) => exit_of(fault),
         CommandFault::Fetch(fault) => fetch_exit_of(fault),
+        CommandFault::Prove(fault) => prove_exit_of(fault),
         CommandFault::Witness(fault) => witness_exit_of(fault),
         CommandFault::Bucket(BucketFault::Device(why))
         | CommandFault::Credentials(Some(why))
@@ -97,6 +101,16 @@ pub(crate) fn after_fetch(outcome: Result<(), FetchFault>) -> Result<(), Command
     match outcome {
         Ok(()) => Ok(()),
         Err(fault) => Err(CommandFault::Fetch(fault)),
+    }
+}
+
+// Returns the outcome of `verify`, `prove` or `submit`.
+pub(crate) fn after_prove(outcome: Result<(), ProveFault>) -> Result<(), CommandFault>
+    ensures { result ≡ by_prove outcome }
+{
+    match outcome {
+        Ok(()) => Ok(()),
+        Err(fault) => Err(CommandFault::Prove(fault)),
     }
 }
 

@@ -4,6 +4,7 @@ use crate::in_bucket::{AppendToOptions, ServeFromOptions};
 use tl_append::AppendOptions;
 use tl_command::{BuildOptions, CheckOptions, HeadOptions, KeygenOptions, SignedOptions};
 use tl_fetch::{FeedOptions, FetchOptions};
+use tl_prove::{ProveOptions, SubmitOptions, VerifyOptions};
 use tl_serve::{ServeOptions, WitnessOptions};
 
 /// The options of `inclusion`.
@@ -80,6 +81,12 @@ pub enum Job {
     Fetch(FetchOptions),
     /// Bring a log's checkpoint before witnesses.
     Feed(FeedOptions),
+    /// Check a proof of an entry under a policy.
+    Verify(VerifyOptions),
+    /// Print a proof of an entry of a log.
+    Prove(ProveOptions),
+    /// Post an entry to a log, and print a proof of it.
+    Submit(SubmitOptions),
     /// Print the program's version.
     Version,
     /// Print a text on how to call the program.

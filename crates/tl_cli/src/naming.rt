@@ -1,10 +1,11 @@
 //! What the options of a job name, for the line of a fault.
 
 ghost use Rattle.std.specs.Prelude.{◌≡◌, option_map};
-ghost use Rattle.tl_cli.specs.Named.{address_of, base_of, credentials_of, file_of, key_file, key_option, listed_file, log_of, logs_file, new_key_of, source_of, state_of, text_at, witness_address, witness_file};
+ghost use Rattle.tl_cli.specs.Named.{address_of, base_of, credentials_of, entry_file, extra_file, file_of, given_file, key_file, key_option, listed_file, log_of, logs_file, named_file, new_key_of, policy_file, source_of, state_of, text_at, wanted_file, witness_address, witness_file};
 
 use crate::job::Job;
 use tl_fetch::Address;
+use tl_prove::{EntryOptions, NamedFile, ProveRequest};
 use tl_run::{LogKey, Place};
 use tl_serve::{KnownLogs, WitnessSignerKey};
 
@@ -107,7 +108,77 @@ fn source_of(job: &Job) -> Option<&str>
     match job {
         Job::Fetch(options) => Some(options.from.as_str()),
         Job::Feed(options) => Some(options.log.from.as_str()),
+        Job::Prove(options) => Some(options.from.as_str()),
+        Job::Submit(options) => Some(options.to.as_str()),
         _ => None,
+    }
+}
+
+// Returns the file of an entry.
+fn entry_file(entry: &EntryOptions) -> Option<&str>
+    ensures { option_map (λ s. s.now) result ≡ entry_file entry.now }
+{
+    match entry {
+        EntryOptions::Text(_) => None,
+        EntryOptions::File(path) => Some(path.as_str()),
+        EntryOptions::Digest { file, name: _ } => Some(file.as_str()),
+    }
+}
+
+// Returns the file of the entry of which a proof is made.
+fn wanted_file(wanted: &ProveRequest) -> Option<&str>
+    ensures { option_map (λ s. s.now) result ≡ wanted_file wanted.now }
+{
+    match wanted {
+        ProveRequest::Index(_) => None,
+        ProveRequest::Entry(entry) => entry_file(entry),
+    }
+}
+
+// Returns the file of a policy that the options name.
+fn policy_file(job: &Job) -> Option<&str>
+    ensures { option_map (λ s. s.now) result ≡ policy_file job.now }
+{
+    match job {
+        Job::Verify(options) => Some(options.policy.as_str()),
+        Job::Prove(options) => Some(options.policy.as_str()),
+        Job::Submit(options) => Some(options.policy.as_str()),
+        _ => None,
+    }
+}
+
+// Returns the file of an entry that the options name.
+fn given_file(job: &Job) -> Option<&str>
+    ensures { option_map (λ s. s.now) result ≡ given_file job.now }
+{
+    match job {
+        Job::Verify(options) => entry_file(&options.entry),
+        Job::Prove(options) => wanted_file(&options.wanted),
+        Job::Submit(options) => entry_file(&options.entry),
+        _ => None,
+    }
+}
+
+// Returns the file of a proof's extra data that the options name.
+fn extra_file(job: &Job) -> Option<&str>
+    ensures { option_map (λ s. s.now) result ≡ extra_file job.now }
+{
+    match job {
+        Job::Verify(options) => options.extra.as_deref(),
+        Job::Prove(options) => options.extra.as_deref(),
+        Job::Submit(options) => options.extra.as_deref(),
+        _ => None,
+    }
+}
+
+/// Returns the file of `verify`, `prove` or `submit` that the options name.
+pub(crate) fn named_file(job: &Job, which: NamedFile) -> Option<&str>
+    ensures { option_map (λ s. s.now) result ≡ named_file job.now which }
+{
+    match which {
+        NamedFile::Policy => policy_file(job),
+        NamedFile::Entry => given_file(job),
+        NamedFile::Extra => extra_file(job),
     }
 }
 

@@ -12,7 +12,7 @@ ghost use Rattle.tl_cli.specs.Ending.{Told, status_of};
 ghost use Rattle.tl_cli.specs.Told.{Tells};
 
 use crate::checking::check_under;
-use crate::fault::{CommandFault, after_fetch, after_run, after_witness, command_exit_of};
+use crate::fault::{CommandFault, after_fetch, after_prove, after_run, after_witness, command_exit_of};
 use crate::in_bucket::{append_to, serve_from};
 use crate::job::{ConsistencyOptions, InclusionOptions, Job};
 use crate::key_files::keygen_to;
@@ -41,6 +41,7 @@ use tl_fetch::{run_feed, run_fetch};
 use tl_folder::CrashOutcome;
 use tl_hash::Sha256Tree;
 use tl_key::{Cosignature, Note};
+use tl_prove::{run_prove, run_submit, run_verify};
 use tl_run::{HmacLogSigner, RunFault, read_file};
 use tl_serve::Host;
 
@@ -229,6 +230,11 @@ pub fn run_job<
             after_fetch(run_fetch(rt, alloc, options, writer, errors, is_terminal))
         }
         Job::Feed(options) => after_fetch(run_feed(rt, alloc, options, writer, errors)),
+        Job::Verify(options) => after_prove(run_verify(rt, alloc, options, reader, writer)),
+        Job::Prove(options) => after_prove(run_prove(rt, alloc, options, writer)),
+        Job::Submit(options) => {
+            after_prove(run_submit(rt, alloc, options, writer, errors, is_terminal))
+        }
         Job::Version => after_run(print_version(writer)),
         Job::Help { text } => after_run(print_whole(text, writer)),
     }

@@ -8,18 +8,19 @@ ghost use Rattle.tl_bucket.specs.FaultWords.{bucket_words};
 ghost use Rattle.tl_run.specs.Faults.{nothing_words};
 ghost use Rattle.tl_run.specs.declared.place.Place.TheVariants.{Log};
 ghost use Rattle.tl_cli.specs.Named.{address_of, base_of, credentials_of, log_of, logs_file, new_key_of};
-ghost use Rattle.tl_cli.specs.Told.{IsLineAt, IsLineOf, IsLineOfRun, IsLineOfWitness, IsWhere, TellsFault, Wrote, address_line, address_words, credentials_line, is_secure, key_path, line_or_none, logs_line, resource_of};
+ghost use Rattle.tl_cli.specs.Told.{IsLineAt, IsLineOf, IsLineOfFetch, IsLineOfProve, IsLineOfRun, IsLineOfWitness, IsWhere, TellsFault, Wrote, address_line, address_words, credentials_line, is_secure, key_path, line_or_none, line_under, logs_line, resource_of};
 
 use crate::fault::{CommandFault, KeyFile};
 use crate::job::Job;
 use crate::naming::{
-    address_of, base_of, credentials_of, key_option, log_of, logs_file, new_key_of,
+    address_of, base_of, credentials_of, key_option, log_of, logs_file, named_file, new_key_of,
 };
 use std::alloc::{AllocError, Allocator};
 use std::io::Write;
 use tl_bucket::BucketFault;
 use tl_device::{Counted, DeviceFault, write_whole};
 use tl_fetch::{Address, FetchFault, fetch_fault_line};
+use tl_prove::{NamedFile, ProveFault};
 use tl_run::{Place, RunFault, fault_line};
 use tl_serve::WitnessFault;
 use tl_source::place_of;
@@ -248,6 +249,59 @@ fn address_line<A: Allocator>(alloc: A, job: &Job, which: Address) -> Result<Str
     }
 }
 
+// Returns the line of a fault of `fetch` or `feed`, if it has one.
+fn fetch_line<A: Allocator + Copy>(
+    alloc: A,
+    job: &Job,
+    fault: &FetchFault,
+) -> Result<String<A>, AllocError>
+    ensures { IfOk result (λ text. IsLineOfFetch job.now fault.now (string_bytes text)) }
+{
+    match fault {
+        FetchFault::Run(fault) => run_line(alloc, job, fault),
+        FetchFault::BadAddress(which) => address_line(alloc, job, *which),
+        _ => whole_line(alloc, fetch_fault_line(alloc, fault)?),
+    }
+}
+
+// Returns the line of a fault with these words, at a path, if there is one.
+fn line_under<A: Allocator>(
+    alloc: A,
+    path: Option<&str>,
+    words: &str,
+) -> Result<String<A>, AllocError>
+    ensures { IfOk result (λ text. string_bytes text
+        ≡ line_under (option_map (λ s. s.now) path.entry) words.now) }
+{
+    match path {
+        Some(path) => line_at(alloc, path, words),
+        None => line_at(alloc, "file", words),
+    }
+}
+
+// Returns the line of a fault of `verify`, `prove` or `submit`, if it has one.
+fn prove_line<A: Allocator + Copy>(
+    alloc: A,
+    job: &Job,
+    fault: &ProveFault,
+) -> Result<String<A>, AllocError>
+    ensures { IfOk result (λ text. IsLineOfProve job.now fault.now (string_bytes text)) }
+{
+    if let ProveFault::Fetch(fault) = fault {
+        return fetch_line(alloc, job, fault);
+    }
+    let words = format!(in alloc; "{fault}")?;
+    let words = words.as_str();
+    match fault {
+        ProveFault::File(which, _) => line_under(alloc, named_file(job, *which), words),
+        ProveFault::PolicyNotText | ProveFault::Policy(_) => {
+            line_under(alloc, named_file(job, NamedFile::Policy), words)
+        }
+        ProveFault::NotPosted(_) => line_under(alloc, address_of(job, Address::From), words),
+        _ => Ok(format!(in alloc; "tlog: {words}\n")?),
+    }
+}
+
 // Returns the line of a fault of a job, if it has one.
 fn line_of<A: Allocator + Copy>(
     alloc: A,
@@ -258,9 +312,8 @@ fn line_of<A: Allocator + Copy>(
 {
     match fault {
         CommandFault::Run(fault) => run_line(alloc, job, fault),
-        CommandFault::Fetch(FetchFault::Run(fault)) => run_line(alloc, job, fault),
-        CommandFault::Fetch(FetchFault::BadAddress(which)) => address_line(alloc, job, *which),
-        CommandFault::Fetch(fault) => whole_line(alloc, fetch_fault_line(alloc, fault)?),
+        CommandFault::Fetch(fault) => fetch_line(alloc, job, fault),
+        CommandFault::Prove(fault) => prove_line(alloc, job, fault),
         CommandFault::Witness(fault) => witness_line(alloc, job, fault),
         CommandFault::Bucket(why) => bucket_line(alloc, job, why),
         CommandFault::Credentials(why) => credentials_line(alloc, job, why),

@@ -20,6 +20,7 @@ mod feeding;
 mod fetching;
 mod given;
 mod listening;
+mod offline;
 mod proving;
 mod serving;
 mod table;
@@ -103,6 +104,9 @@ enum Named {
     Witness,
     Fetch,
     Feed,
+    Prove,
+    Verify,
+    Submit,
 }
 
 // The commands in the order in which help lists them.
@@ -120,6 +124,9 @@ const COMMANDS: &[Named] = &[
     Named::Witness,
     Named::Fetch,
     Named::Feed,
+    Named::Prove,
+    Named::Verify,
+    Named::Submit,
 ];
 
 // Returns the words of a command.
@@ -138,6 +145,9 @@ fn words_of(command: Named) -> &'static Words {
         Named::Witness => witnessing::witness(),
         Named::Fetch => fetching::fetch(),
         Named::Feed => feeding::feed(),
+        Named::Prove => offline::prove(),
+        Named::Verify => offline::verify(),
+        Named::Submit => offline::submit(),
     }
 }
 
@@ -177,6 +187,9 @@ fn job_of(alloc: Global, command: &str, options: &ArgMatches<'_>) -> Result<Job,
         "witness" => witnessing::witness_job(alloc, options),
         "fetch" => fetching::fetch_job(alloc, options),
         "feed" => feeding::feed_job(alloc, options),
+        "prove" => offline::prove_job(alloc, options),
+        "verify" => offline::verify_job(alloc, options),
+        "submit" => offline::submit_job(alloc, options),
         _ => Err(given::no_word(alloc)),
     }
 }

@@ -40,25 +40,25 @@ use tl_source::{
 // How many requests to a host are in flight at once if the options don't say.
 const AT_ONCE: u16 = 8;
 
-/// Returns the source that the options name: an address if the text has a scheme, else a folder.
-pub(crate) fn source_of<'s, H: Files + Net<Stream = TcpStream> + Clock>(
+/// Returns the source of a log at an address, if the text has a scheme, and else in a folder. An answer takes at most
+/// this many seconds. It fails with `BadAddress` if the text has a scheme and is no address over HTTP.
+pub fn source_of<'s, H: Files + Net<Stream = TcpStream> + Clock>(
     rt: &'s H,
     alloc: Global,
-    options: &'s FetchOptions,
+    from: &'s str,
+    timeout: u64,
 ) -> Result<AnySource<'s, H>, FetchFault>
-    ensures found { IfOk result
-        (λ s. IsOriginOf (string_bytes options.now.from) (origin_of s)) }
+    ensures found { IfOk result (λ s. IsOriginOf from.now (origin_of s)) }
     ensures refused { IfErr result (λ fault. (fault ≡ FetchFault.BadAddress Address.From)
-        × HasScheme (string_bytes options.now.from) × IsNoUrl (string_bytes options.now.from)) }
+        × HasScheme from.now × IsNoUrl from.now) }
 {
-    let from = options.from.as_str();
     if !from.contains("://") {
         return Ok(AnySource::Folder(FolderSource::new(rt, alloc, from)));
     }
     let Some(url) = Url::parse(from) else {
         return Err(FetchFault::BadAddress(Address::From));
     };
-    let limit = Duration::from_secs(options.timeout);
+    let limit = Duration::from_secs(timeout);
     Ok(AnySource::Http(HttpSource::new(rt, alloc, url, limit)))
 }
 
@@ -202,9 +202,9 @@ fn fetch_with_state<
     )
 }
 
-// Returns a fault that names the resource which the last call of the source lacked, if that is the reason of this
-// one.
-fn name_lack(fault: FetchFault, lack: Option<Lack>) -> FetchFault
+/// Returns a fault that names the resource which the last call of the source lacked, if that is the reason of this
+/// one.
+pub fn name_lack(fault: FetchFault, lack: Option<Lack>) -> FetchFault
     ensures { result ≡ told_as fault lack }
 {
     match (fault, lack) {
@@ -280,7 +280,7 @@ fn fetch_as_asked<'s, H: Files<File = File> + HostClient, W: Write, E: Write>(
         (map (λ w. key w) policy.now.witnesses.now) policy.now.need policy.now.since) options.now
         (passage W.contents writer.old writer.new) result }
 {
-    let source = match source_of(rt, alloc, options) {
+    let source = match source_of(rt, alloc, options.from.as_str(), options.timeout) {
         Ok(source) => source,
         Err(fault) => return Err(fault),
     };

@@ -16,7 +16,7 @@ pub(crate) const BAD_CHECKPOINT: RunFault = RunFault::BadCheckpoint(Place::Sourc
 ));
 
 /// Returns the fault of the command for a check that failed. It never says that the log forked: only evidence does.
-pub(crate) fn client_refusal(fault: ClientFault) -> FetchFault
+pub fn client_refusal(fault: ClientFault) -> FetchFault
     ensures value { result ≡ after_client fault }
     ensures fair { IsNoAccusation result }
 {

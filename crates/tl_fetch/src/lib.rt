@@ -59,15 +59,16 @@ mod state;
 mod state_file;
 mod witnesses;
 
-pub use command::run_fetch;
+pub use command::{name_lack, run_fetch, source_of};
 pub use entry::fetch_entry;
 pub use fault::{Address, FetchFault, fetch_exit_of, fetch_fault_line};
+pub use faults::client_refusal;
 pub use feed::asking::AsksWitnesses;
 pub use feed::command::{FeedOptions, run_feed};
 pub use feed::feeding::feed_under;
 pub use law::listing_is_one_list;
 pub use listing::print_entries;
-pub use observer::Observer;
+pub use observer::{Nobody, Observer};
 pub use opening::{open_trusted, trusted_head};
 pub use options::{FetchOptions, FetchRequest};
 pub use policy::Policy;

@@ -27,7 +27,7 @@ pub trait Observer {
 
 /// An observer that does nothing.
 #[derive(Clone, Copy)]
-pub(crate) struct Nobody;
+pub struct Nobody;
 
 impl Observer for Nobody {
     fn checked<A: Allocator>(

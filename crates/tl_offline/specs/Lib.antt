@@ -3,4 +3,5 @@ pub mod ProofText
 pub mod ParseProof
 pub mod WriteProof
 pub mod CheckEntry
+pub mod FaultWords
 pub mod Inner

@@ -22,10 +22,15 @@ pub enum EntryFault {
 impl Error for EntryFault {}
 
 impl Display for EntryFault {
+    ghost use Rattle.std.specs.Prelude.{Some};
+    ghost use Rattle.tl_offline.specs.FaultWords.{entry_words};
+
+    ghost output = { λ fault. Some (entry_words fault) };
+
     fn fmt<W: fmt::Write>(&self, f: &mut Formatter<W>) -> fmt::Result {
         f.write_str(match self {
             EntryFault::IndexOutOfRange => "the index isn't in the log",
-            EntryFault::NotIncluded => "the entry isn't at the index",
+            EntryFault::NotIncluded => "the entry is another one",
         })
     }
 }

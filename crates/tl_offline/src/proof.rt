@@ -44,6 +44,11 @@ pub enum ProofFault {
 }
 
 impl Display for ProofFault {
+    ghost use Rattle.std.specs.Prelude.{Some};
+    ghost use Rattle.tl_offline.specs.FaultWords.{proof_words};
+
+    ghost output = { λ fault. Some (proof_words fault) };
+
     fn fmt<W: fmt::Write>(&self, f: &mut Formatter<W>) -> fmt::Result {
         let (line, words) = match self {
             ProofFault::NoHeader => (1, "isn't c2sp.org/tlog-proof@v1"),

@@ -5,3 +5,5 @@ pub
     mod Outcomes
 pub
     mod Drafts
+pub
+    mod Trusting

@@ -4,4 +4,6 @@ pub mod PolicyText
 pub mod ReadPolicy
 pub mod Cosigned
 pub mod Need
+pub mod Trust
+pub mod FaultWords
 pub mod Inner

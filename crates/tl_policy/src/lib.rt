@@ -30,9 +30,14 @@ mod naming;
 mod policy;
 mod reading;
 mod satisfied;
+mod trust;
+mod trust_fault;
 mod words;
 
 pub use fault::PolicyFault;
 pub use law::{more_witnesses_satisfy, need_is_a_policy};
 pub use policy::{Member, Policy, PolicyGroup, PolicyLog, PolicyWitness};
 pub use reading::parse_policy;
+pub use satisfied::Shortfall;
+pub use trust::{Trusted, open_under};
+pub use trust_fault::TrustFault;

@@ -1,7 +1,7 @@
 //! Whether witnesses satisfy a policy.
 
-ghost use Rattle.std.specs.Prelude.{◌≡◌, ◌<◌, ◌≤◌, length, map, take, slice_index_or, false};
-ghost use Rattle.tl_policy.specs.Satisfied.{is_member_satisfied, is_satisfied, satisfied_groups};
+ghost use Rattle.std.specs.Prelude.{◌≡◌, ◌<◌, ◌≤◌, length, map, take, slice_index_or, true, false, MatchOption};
+ghost use Rattle.tl_policy.specs.Satisfied.{FallsShort, IsShortOf, count_satisfied, is_member_satisfied, is_satisfied, satisfied_groups};
 ghost use Rattle.tl_policy.specs.Terms.{group_term, terms_of};
 
 use crate::policy::{Member, Policy, PolicyGroup};
@@ -37,11 +37,54 @@ fn is_group_satisfied<A: Allocator>(
         slice_index_or (satisfied_groups set.now (map group_term groups.now)) place false }
 {
     let group = &groups[place];
+    count_satisfied(groups, set, place, group.members.as_slice()) >= group.threshold
+}
+
+// Returns how many of these members are satisfied, by groups before this place alone.
+#[cycle(satisfied)]
+fn count_satisfied<A: Allocator>(
+    groups: &[PolicyGroup<'_, A>],
+    set: &[bool],
+    before: usize,
+    members: &[Member],
+) -> usize
+    requires { before ≤ length groups.now }
+    ensures { result ≡ count_satisfied set.now
+        (take before (satisfied_groups set.now (map group_term groups.now))) members.now }
+{
     let mut count = 0;
-    for member in group.members.as_slice() {
-        count += is_member_satisfied(groups, set, place, *member) as usize;
+    for member in members {
+        count += is_member_satisfied(groups, set, before, *member) as usize;
     }
-    count >= group.threshold
+    count
+}
+
+/// How many members of a quorum are satisfied, and how many have to be.
+#[derive(Clone, Copy, Debug, PartialEq, Eq)]
+pub struct Shortfall {
+    pub have: usize,
+    pub want: usize,
+}
+
+// Returns how many of a member's own members are satisfied, and how many have to be, if it isn't satisfied itself.
+fn shortfall_of<A: Allocator>(
+    groups: &[PolicyGroup<'_, A>],
+    set: &[bool],
+    member: Member,
+) -> Shortfall
+    ensures { IsShortOf set.now (map group_term groups.now) member result.have result.want }
+{
+    let alone = Shortfall { have: 0, want: 1 };
+    let Member::Group(place) = member else {
+        return alone;
+    };
+    let Some(group) = groups.get(place) else {
+        return alone;
+    };
+    Shortfall {
+        have: count_satisfied(groups, set, place, group.members.as_slice()),
+        want: group.threshold,
+    }
 }
 
 impl<'t, A: Allocator> Policy<'t, A> {
@@ -58,5 +101,19 @@ impl<'t, A: Allocator> Policy<'t, A> {
             }
             None => true,
         }
+    }
+    /// Returns how far a set of witnesses is from satisfying the quorum, or `None` if it satisfies it. The members
+    /// that count are those of the quorum's own group.
+    pub fn shortfall(&self, set: &[bool]) -> Option<Shortfall>
+        ensures { MatchOption result (is_satisfied set.now (terms_of self.now) ≡ true)
+            (λ s. FallsShort set.now (terms_of self.now) s.have s.want) }
+    {
+        let Some(member) = self.quorum else {
+            return None;
+        };
+        if self.is_satisfied(set) {
+            return None;
+        }
+        Some(shortfall_of(self.groups.as_slice(), set, member))
     }
 }

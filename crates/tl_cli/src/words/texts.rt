@@ -263,3 +263,61 @@ read or a write failed; 4 the log forked.
 
 Example: tlog feed --from http://example.com/log --key @key.pub \\
              --to http://127.0.0.1:8081 --witness @witness.pub";
+
+pub(super) const PROVE: &str =
+    "Fetches the log's checkpoint, and the tiles and the bundle of the entry, from a
+folder or over HTTP, and trusts none of them: the checkpoint is one that the
+policy trusts, and everything else is checked against it.
+
+Output: the proof (C2SP tlog-proof), which 'tlog verify' accepts under the same
+policy: the index, the hashes of the inclusion proof, and the signed checkpoint.
+Without --index the bundles are looked through, the last one first.
+
+FILE of --policy has lines 'log VKEY', 'witness NAME VKEY', 'group NAME K
+MEMBER..' and 'quorum NAME', or 'quorum none' (C2SP tlog-policy). With --sha256
+the entry is the text 'sha256 HEX', and a space and --name if that is given.
+
+Exit status: 0 done; 1 refused (a bad policy, signed by no log of the policy,
+cosigned by N, K wanted, no such entry, a tile, a bundle or an entry wrong, out
+of memory); 2 wrong arguments or a call for help; 3 not available, or a read or
+a write failed.
+
+Example: tlog prove --from http://example.com/log --policy policy \\
+             --index 7 > entry.tlog-proof";
+
+pub(super) const VERIFY: &str =
+    "Input: a proof (C2SP tlog-proof), as 'tlog prove' and 'tlog submit' print it. No
+network is needed.
+
+Output, if the proof is accepted: 'accepted SIZE INDEX', and for each witness of
+the policy that cosigned the checkpoint 'witness NAME TIME', in seconds since
+1970. It is accepted if a log of the policy signed the checkpoint, the witnesses
+that cosigned it satisfy the quorum, and the entry is at the index. The entry is
+then there in every list of that size and root.
+
+FILE of --policy and the entry of --sha256 are as for 'tlog prove'.
+
+Exit status: 0 accepted; 1 refused, for the reason on standard error (a bad
+policy, a line of the proof wrong, signed by no log of the policy, cosigned by
+N, K wanted, the entry is another one, out of memory); 2 wrong arguments or a
+call for help; 3 a read or a write failed.
+
+Example: tlog verify --policy policy --sha256 release.tar.gz < release.tlog-proof";
+
+pub(super) const SUBMIT: &str =
+    "Posts the entry to the log, which takes entries ('tlog serve --add'), waits
+until a checkpoint that the policy trusts has it, and prints the proof.
+
+Output: the proof (C2SP tlog-proof), which 'tlog verify' accepts under the same
+policy. On a terminal standard error says when the log has taken the entry.
+
+FILE of --policy and the entry of --sha256 are as for 'tlog prove'. Run again,
+it posts the entry again; 'tlog prove' makes a proof of one that is there.
+
+Exit status: 0 done; 1 refused (a bad policy, a bad address, signed by no log of
+the policy, cosigned by N, K wanted, an entry wrong, out of memory); 2 wrong
+arguments or a call for help; 3 the log didn't answer or not in time, or a read
+or a write failed.
+
+Example: tlog submit --to http://example.com/log --policy policy \\
+             --sha256 release.tar.gz > release.tlog-proof";

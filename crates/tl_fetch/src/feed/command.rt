@@ -110,7 +110,7 @@ fn feed_as_asked<'s, H: Files<File = File> + Net<Stream = TcpStream> + Clock, W:
         Ok(urls) => urls,
         Err(fault) => return Err(fault),
     };
-    let source = match source_of(rt, alloc, &options.log) {
+    let source = match source_of(rt, alloc, options.log.from.as_str(), options.log.timeout) {
         Ok(source) => source,
         Err(fault) => return Err(fault),
     };

@@ -1,0 +1,85 @@
+//! Posting an entry to a log.
+
+use crate::fault::ProveFault;
+use std::alloc::{AllocError, Global};
+use std::net::{Net, TcpStream};
+use std::str;
+use std::time::{Clock, Duration, Instant};
+use tl_device::{Counted, DeviceFault, Timed};
+use tl_http::{HttpFault, Post, post};
+use tl_source::{Url, connect};
+use tl_text::parse_size;
+
+// The most bytes of the answer.
+const MOST_ANSWER: usize = 64;
+
+// Returns the target under the log's address to which entries are posted.
+fn target_of(alloc: Global, url: &Url<'_>) -> Result<String, AllocError> {
+    let front = url.prefix.strip_suffix('/').unwrap_or(url.prefix);
+    let mut target = String::from_str(alloc, front)?;
+    target.push_str("/add")?;
+    Ok(target)
+}
+
+// Returns why the log gave no answer.
+fn why_none(fault: HttpFault) -> DeviceFault {
+    match fault {
+        HttpFault::Status(status) => DeviceFault::Status(status),
+        HttpFault::Read | HttpFault::Write => DeviceFault::Broken,
+        HttpFault::OutOfMemory => DeviceFault::OutOfMemory,
+        _ => DeviceFault::NotHttp,
+    }
+}
+
+// Returns the body of the log's answer to a post.
+fn answer_of<H: Net<Stream = TcpStream> + Clock>(
+    rt: &H,
+    alloc: Global,
+    url: &Url<'_>,
+    target: &str,
+    entry: &[u8],
+    limit: Duration,
+) -> Result<Vec<u8>, DeviceFault> {
+    let start = Instant::now(rt)?;
+    let stream = connect(rt, url, &start, limit)?;
+    let mut reader = Counted::new(Timed::new(rt, &stream, start, limit));
+    let mut writer = Counted::new(Timed::new(rt, &stream, start, limit));
+    let asked = Post {
+        host: url.authority,
+        target,
+        body: entry,
+        statuses: &[200],
+        field: "Content-Type",
+    };
+    match post(alloc, &mut reader, &mut writer, &asked, MOST_ANSWER) {
+        Ok(reply) => Ok(reply.body),
+        Err(fault) => Err(why_none(fault)),
+    }
+}
+
+// Returns the index that the log's answer is.
+fn index_of(answer: &[u8]) -> Result<u64, ProveFault> {
+    let Ok(text) = str::from_utf8(answer) else {
+        return Err(ProveFault::NoIndex);
+    };
+    match parse_size(text) {
+        Some(index) => Ok(index),
+        None => Err(ProveFault::NoIndex),
+    }
+}
+
+/// Posts an entry to the log at this address, and returns the index that it answers.
+pub(crate) fn post_entry<H: Net<Stream = TcpStream> + Clock>(
+    rt: &H,
+    alloc: Global,
+    url: &Url<'_>,
+    entry: &[u8],
+    limit: Duration,
+) -> Result<u64, ProveFault> {
+    let target = target_of(alloc, url)?;
+    match answer_of(rt, alloc, url, target.as_str(), entry, limit) {
+        Ok(answer) => index_of(answer.as_slice()),
+        Err(DeviceFault::OutOfMemory) => Err(ProveFault::from(AllocError)),
+        Err(why) => Err(ProveFault::NotPosted(why)),
+    }
+}

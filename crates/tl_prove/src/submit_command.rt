@@ -1,0 +1,160 @@
+//! The command `submit`.
+
+use crate::entry::given_entry;
+use crate::fault::ProveFault;
+use crate::files::{policy_of, policy_text, read_extra};
+use crate::options::SubmitOptions;
+use crate::posting::post_entry;
+use crate::prove_command::with_lack;
+use crate::proving::{Found, TrustedNote, open_source, prove_found};
+use std::alloc::{AllocError, Global};
+use std::fs::{File, Files};
+use std::io::Write;
+use std::net::{Net, TcpStream};
+use std::thread::{Threads, sleep};
+use std::time::{Clock, Duration, Instant};
+use tl_client::ResourceSource;
+use tl_device::{Counted, DeviceFault, write_whole};
+use tl_fetch::{Address, FetchFault};
+use tl_hash::{Sha256Tree, leaf_hash};
+use tl_policy::{Policy, TrustFault};
+use tl_run::print_text;
+use tl_source::{FullSource, HttpSource, NamesLack, Url};
+
+// How many milliseconds one waits before the checkpoint is looked at again.
+const PAUSE: u64 = 500;
+
+// Reports whether a log that goes on may have what is lacking later.
+fn may_pass(fault: &ProveFault) -> bool {
+    matches!(
+        fault,
+        ProveFault::Untrusted(TrustFault::NotSatisfied(_))
+            | ProveFault::Fetch(FetchFault::Unavailable)
+            | ProveFault::TooLate
+    )
+}
+
+// Returns the source's checkpoint, if the policy trusts it and it has the entry with this index. It fails with
+// `TooLate` if the checkpoint hasn't.
+fn look<S: ResourceSource>(
+    alloc: Global,
+    source: &S,
+    policy: &Policy<'_, Global>,
+    index: u64,
+) -> Result<TrustedNote, ProveFault> {
+    let checkpoint = open_source(alloc, source, policy)?;
+    if checkpoint.head().size <= index {
+        return Err(ProveFault::TooLate);
+    }
+    Ok(checkpoint)
+}
+
+// Reports whether `limit` has passed since `start`.
+fn is_over<H: Clock>(rt: &H, start: &Instant, limit: Duration) -> bool {
+    match start.elapsed(rt) {
+        Ok(elapsed) => elapsed >= limit,
+        Err(_) => true,
+    }
+}
+
+// Returns the first checkpoint of the source that the policy trusts and that has the entry with this index, before
+// `limit` has passed since `start`.
+fn wait_for<H: Threads + Clock, S: ResourceSource>(
+    rt: &H,
+    alloc: Global,
+    source: &S,
+    policy: &Policy<'_, Global>,
+    index: u64,
+    start: &Instant,
+    limit: Duration,
+) -> Result<TrustedNote, ProveFault> {
+    for _ in 0..u64::MAX {
+        let fault = match look(alloc, source, policy, index) {
+            Ok(checkpoint) => return Ok(checkpoint),
+            Err(fault) => fault,
+        };
+        if !may_pass(&fault) || is_over(rt, start, limit) {
+            return Err(fault);
+        }
+        sleep(rt, Duration::from_millis(PAUSE));
+    }
+    Err(ProveFault::TooLate)
+}
+
+// Says on a terminal that an entry was taken.
+fn tell<E: Write>(alloc: Global, index: u64, errors: &mut Counted<E>) -> Result<(), AllocError> {
+    let text = format!(in alloc; "tlog: entry {index} is taken; waiting for a checkpoint that has it\n")?;
+    let _ = write_whole(errors, text.as_bytes());
+    Ok(())
+}
+
+// Posts an entry to the log at this address, and returns the text of a proof of it under a policy.
+fn submit<H: Net<Stream = TcpStream> + Threads + Clock, E: Write>(
+    rt: &H,
+    alloc: Global,
+    url: Url<'_>,
+    policy: &Policy<'_, Global>,
+    entry: &[u8],
+    extra: Option<Vec<u8>>,
+    limit: Duration,
+    told: Option<&mut Counted<E>>,
+) -> Result<String, ProveFault> {
+    let Ok(start) = Instant::now(rt) else {
+        return Err(ProveFault::NotPosted(DeviceFault::System));
+    };
+    let index = post_entry(rt, alloc, &url, entry, limit)?;
+    if let Some(errors) = told {
+        tell(alloc, index, errors)?;
+    }
+    let source = HttpSource::new(rt, alloc, url, limit);
+    let source = FullSource::new(alloc, &source);
+    let outcome = match wait_for(rt, alloc, &source, policy, index, &start, limit) {
+        Ok(checkpoint) => {
+            let leaf = leaf_hash(Sha256Tree, entry);
+            prove_found(alloc, &source, &checkpoint, Found { index, leaf }, extra)
+        }
+        Err(fault) => Err(fault),
+    };
+    match outcome {
+        Ok(proof) => Ok(proof),
+        Err(fault) => Err(with_lack(fault, source.lack())),
+    }
+}
+
+/// Posts an entry to a log, waits until a checkpoint that the policy trusts has it, and prints a proof of it, which
+/// `verify` accepts under the same policy. It reads the files that the options name first. If `errors` is a terminal,
+/// it says there when the log has taken the entry.
+pub fn run_submit<
+    H: Files<File = File> + Net<Stream = TcpStream> + Threads + Clock,
+    W: Write,
+    E: Write,
+>(
+    rt: &H,
+    alloc: Global,
+    options: &SubmitOptions,
+    writer: &mut Counted<W>,
+    errors: &mut Counted<E>,
+    is_terminal: bool,
+) -> Result<(), ProveFault> {
+    let text = policy_text(rt, alloc, options.policy.as_str())?;
+    let policy = policy_of(alloc, text.as_str())?;
+    let entry = given_entry(rt, alloc, &options.entry)?;
+    let extra = read_extra(rt, alloc, options.extra.as_deref())?;
+    let Some(url) = Url::parse(options.to.as_str()) else {
+        return Err(ProveFault::Fetch(FetchFault::BadAddress(Address::From)));
+    };
+    let limit = Duration::from_secs(options.timeout);
+    let told = is_terminal.then_some(errors);
+    let proof = submit(
+        rt,
+        alloc,
+        url,
+        &policy,
+        entry.as_slice(),
+        extra,
+        limit,
+        told,
+    )?;
+    print_text(writer, proof.as_bytes())?;
+    Ok(())
+}
