@@ -6,3 +6,5 @@ pub mod Policies
 pub mod Verify
 pub mod Accepted
 pub mod VerifyCommand
+pub mod Prove
+pub mod Inner

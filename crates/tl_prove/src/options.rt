@@ -33,7 +33,7 @@ pub struct VerifyOptions {
 pub enum ProveRequest {
     /// The entry with this index, counted from 0.
     Index(u64),
-    /// The last entry that is this one.
+    /// An entry that is this one.
     Entry(EntryOptions),
 }
 

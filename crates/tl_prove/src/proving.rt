@@ -1,12 +1,19 @@
 //! A proof of an entry, of what a source has.
 
+ghost use Rattle.std.specs.Prelude.{◌≡◌, ◌≢◌, ◌<◌, ◌≤◌, ◌*◌, All, IfErr, IfOk, MatchBool, MatchOption, length, map, option_map, string_bytes, vec_items};
+ghost use Rattle.tl_offline.specs.ProofText.{TlogProof};
+ghost use Rattle.tl_policy.specs.Terms.{terms_of};
+ghost use Rattle.tl_text.specs.Text.{IsSize};
+ghost use Rattle.tl_prove.specs.Prove.{IsProofFor, Proves, RefusesLeaf, RefusesProving};
+ghost use Rattle.tl_prove.specs.Inner.Proving.{Finds, LooksFor, LooksIn, OpensSource, ReadsCheckpoint, head_of};
+
 
 use crate::fault::ProveFault;
 use std::alloc::{AllocError, Global};
 use tl_client::{ClientFault, Head, ResourceSource, prove_entry, read_entries};
 use tl_fetch::{FetchFault, Nobody, client_refusal, fetch_entry};
 use tl_hash::{Hash, Sha256Tree, leaf_hash};
-use tl_offline::{OfflineProof, write_proof};
+use tl_offline::{OfflineProof, WriteFault, write_proof};
 use tl_policy::{Policy, TrustFault, Trusted, open_under};
 use tl_tile::{FetchedTiles, Resource, SourceFault};
 
@@ -15,7 +22,7 @@ use tl_tile::{FetchedTiles, Resource, SourceFault};
 pub enum Wanted<'w> {
     /// The entry with this index, counted from 0.
     Index(u64),
-    /// The last entry of these bytes.
+    /// One of these bytes.
     Entry(&'w [u8]),
 }
 
@@ -28,7 +35,9 @@ pub(crate) struct TrustedNote {
 
 impl TrustedNote {
     // Returns the size and the root.
-    pub(crate) fn head(&self) -> Head {
+    pub(crate) fn head(&self) -> Head
+        ensures { result ≡ head_of self.now }
+    {
         Head {
             size: self.trusted.checkpoint.size,
             root: self.trusted.checkpoint.root,
@@ -37,7 +46,9 @@ impl TrustedNote {
 }
 
 // Returns the bytes that a source has for the checkpoint.
-fn checkpoint_of<S: ResourceSource>(alloc: Global, source: &S) -> Result<Vec<u8>, ProveFault> {
+fn checkpoint_of<S: ResourceSource>(alloc: Global, source: &S) -> Result<Vec<u8>, ProveFault>
+    ensures { ReadsCheckpoint (S.may_answer source.now) (S.may_lack source.now) result }
+{
     match source.get(alloc, &Resource::Checkpoint) {
         Ok(bytes) => Ok(bytes),
         Err(SourceFault::Unavailable) => Err(ProveFault::Fetch(FetchFault::Unavailable)),
@@ -50,7 +61,10 @@ pub(crate) fn open_source<S: ResourceSource>(
     alloc: Global,
     source: &S,
     policy: &Policy<'_, Global>,
-) -> Result<TrustedNote, ProveFault> {
+) -> Result<TrustedNote, ProveFault>
+    ensures { OpensSource (S.may_answer source.now) (S.may_lack source.now)
+        (terms_of policy.now) result }
+{
     let bytes = checkpoint_of(alloc, source)?;
     let Ok(note) = String::from_utf8(bytes) else {
         return Err(ProveFault::Untrusted(TrustFault::NoNote));
@@ -62,29 +76,64 @@ pub(crate) fn open_source<S: ResourceSource>(
     }
 }
 
-// Returns the place of the last of these entries that is this one.
-fn last_place(entries: &[Vec<u8>], entry: &[u8]) -> Option<usize> {
-    for place in (0..entries.len()).rev() {
-        if entries[place].as_slice() == entry {
+// Reports whether two entries are one.
+fn is_same(one: &[u8], other: &[u8]) -> bool
+    ensures { MatchBool result (one.now ≡ other.now) (one.now ≢ other.now) }
+{
+    one == other
+}
+
+// Returns the place of the first of these entries that is this one.
+fn place_of(entries: &[Vec<u8>], entry: &[u8]) -> Option<usize>
+    ensures { MatchOption result
+        (All (λ e. e ≢ entry.now) (map vec_items entries.now)) (λ place. place < length entries.now) }
+{
+    for place in 0..entries.len() {
+        if is_same(entries[place].as_slice(), entry) {
             return Some(place);
         }
     }
     None
 }
 
-// Returns the index of the last entry of the log that is this one. It looks through the bundles, the last one first.
-fn find_entry<S: ResourceSource>(
+// Returns the index of an entry of a bundle that is this one.
+fn look_in<S: ResourceSource>(
+    alloc: Global,
+    source: &S,
+    head: &Head,
+    bundle: u64,
+    entry: &[u8],
+) -> Result<Option<u64>, ClientFault>
+    ensures { LooksIn (S.may_answer source.now) (S.may_lack source.now) head.now entry.now bundle result }
+{
+    let Head { size, root } = *head;
+    let mut fetched = FetchedTiles::new(alloc);
+    let entries = match read_entries(alloc, source, size, root, bundle, &mut fetched) {
+        Ok(entries) => entries,
+        Err(fault) => return Err(fault),
+    };
+    match place_of(entries.as_slice(), entry) {
+        Some(place) => Ok(Some(256 * bundle + place as u64)),
+        None => Ok(None),
+    }
+}
+
+// Returns the index of an entry of the log that is this one. It looks through the bundles, the last one first.
+fn look_for<S: ResourceSource>(
     alloc: Global,
     source: &S,
     head: &Head,
     entry: &[u8],
-) -> Result<Option<u64>, ClientFault> {
-    let Head { size, root } = *head;
-    for bundle in (0..size.div_ceil(256)).rev() {
-        let mut fetched = FetchedTiles::new(alloc);
-        let entries = read_entries(alloc, source, size, root, bundle, &mut fetched)?;
-        if let Some(place) = last_place(entries.as_slice(), entry) {
-            return Ok(Some(256 * bundle + place as u64));
+) -> Result<Option<u64>, ClientFault>
+    ensures { LooksFor (S.may_answer source.now) (S.may_lack source.now) head.now entry.now result }
+{
+    let mut left = head.size.div_ceil(256);
+    while left > 0 {
+        left -= 1;
+        match look_in(alloc, source, head, left, entry) {
+            Ok(None) => {}
+            Ok(Some(index)) => return Ok(Some(index)),
+            Err(fault) => return Err(fault),
         }
     }
     Ok(None)
@@ -103,7 +152,9 @@ fn find<S: ResourceSource>(
     source: &S,
     head: &Head,
     wanted: Wanted<'_>,
-) -> Result<Found, ProveFault> {
+) -> Result<Found, ProveFault>
+    ensures { Finds (S.may_answer source.now) (S.may_lack source.now) head.now wanted.entry result }
+{
     match wanted {
         Wanted::Index(index) => match fetch_entry(alloc, source, head, index, &mut Nobody) {
             Ok(entry) => Ok(Found {
@@ -112,7 +163,7 @@ fn find<S: ResourceSource>(
             }),
             Err(fault) => Err(ProveFault::Fetch(client_refusal(fault))),
         },
-        Wanted::Entry(entry) => match find_entry(alloc, source, head, entry) {
+        Wanted::Entry(entry) => match look_for(alloc, source, head, entry) {
             Ok(Some(index)) => Ok(Found {
                 index,
                 leaf: leaf_hash(Sha256Tree, entry),
@@ -130,7 +181,14 @@ pub(crate) fn prove_found<S: ResourceSource>(
     checkpoint: &TrustedNote,
     found: Found,
     extra: Option<Vec<u8>>,
-) -> Result<String, ProveFault> {
+) -> Result<String, ProveFault>
+    requires { IsSize (head_of checkpoint.now).size }
+    ensures proof { IfOk result (λ text. (proof : TlogProof) × IsProofFor (head_of checkpoint.now)
+        (string_bytes checkpoint.now.note) found.index found.leaf (option_map vec_items extra.entry)
+        (string_bytes text) proof) }
+    ensures refused { IfErr result (RefusesLeaf (S.may_answer source.now) (S.may_lack source.now)
+        (head_of checkpoint.now) found.index found.leaf) }
+{
     let Head { size, root } = checkpoint.head();
     let Found { index, leaf } = found;
     let hashes = match prove_entry(alloc, source, size, root, index, leaf) {
@@ -146,7 +204,8 @@ pub(crate) fn prove_found<S: ResourceSource>(
     };
     match write_proof(alloc, &proof) {
         Ok(text) => Ok(text),
-        Err(_) => Err(ProveFault::from(AllocError)),
+        Err(WriteFault::OutOfMemory) => Err(ProveFault::from(AllocError)),
+        Err(_) => unreachable!(),
     }
 }
 
@@ -158,8 +217,22 @@ pub fn prove<S: ResourceSource>(
     policy: &Policy<'_, Global>,
     wanted: Wanted<'_>,
     extra: Option<Vec<u8>>,
-) -> Result<String, ProveFault> {
-    let checkpoint = open_source(alloc, source, policy)?;
-    let found = find(alloc, source, &checkpoint.head(), wanted)?;
-    prove_found(alloc, source, &checkpoint, found, extra)
+) -> Result<String, ProveFault>
+    ensures proof { IfOk result (λ text. Proves (S.may_answer source.now) (terms_of policy.now)
+        wanted.entry (option_map vec_items extra.entry) (string_bytes text)) }
+    ensures refused { IfErr result (RefusesProving (S.may_answer source.now) (S.may_lack source.now)
+        (terms_of policy.now) wanted.entry) }
+{
+    let checkpoint = match open_source(alloc, source, policy) {
+        Ok(checkpoint) => checkpoint,
+        Err(fault) => return Err(fault),
+    };
+    let found = match find(alloc, source, &checkpoint.head(), wanted) {
+        Ok(found) => found,
+        Err(fault) => return Err(fault),
+    };
+    match prove_found(alloc, source, &checkpoint, found, extra) {
+        Ok(text) => Ok(text),
+        Err(fault) => Err(fault),
+    }
 }
