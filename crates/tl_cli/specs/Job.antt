@@ -10,7 +10,7 @@ use Rattle.tl_command.specs.ProofCommands.{InclusionComes, ConsistencyComes, Che
 use Rattle.tl_command.specs.AuditCommand.{AuditComes}
 use Rattle.tl_run.specs.declared.fault.RunFault.{RunFault}
 use Rattle.tl_cli.specs.declared.job.Job.{Job}
-use Rattle.tl_cli.specs.declared.job.Job.TheVariants.{Head, Build, BuildSigned, Append, AppendTo, Inclusion, Consistency, Check, CheckUnder, CheckFork, Keygen, KeygenTo, Open, Audit, Serve, ServeFrom, Witness, Fetch, Feed, Version, Help}
+use Rattle.tl_cli.specs.declared.job.Job.TheVariants.{Head, Build, BuildSigned, Append, AppendTo, Inclusion, Consistency, Check, CheckUnder, CheckFork, Keygen, KeygenTo, Open, Audit, Serve, ServeFrom, Witness, Fetch, Feed, Verify, Prove, Submit, Version, Help}
 use Rattle.tl_run.specs.Signing.{demo_log_key}
 use Rattle.tl_command.specs.Build.{RunsBuild}
 use Rattle.tl_command.specs.Signed.{RunsSigned}
@@ -21,13 +21,17 @@ use Rattle.tl_command.specs.Keygen.{GivesKey}
 use Rattle.tl_command.specs.Open.{RunsOpen}
 use Rattle.tl_fetch.specs.Command.{RunsFetch}
 use Rattle.tl_fetch.specs.FeedCommand.{RunsFeed}
+use Rattle.tl_prove.specs.VerifyCommand.{RunsVerify}
+use Rattle.tl_prove.specs.ProveCommand.{RunsProve}
+use Rattle.tl_prove.specs.SubmitCommand.{RunsSubmit}
+use Rattle.tl_prove.specs.declared.fault.ProveFault.{ProveFault}
 use Rattle.tl_run.specs.Origins.{RefusesOrigin}
 use Rattle.tl_hash.specs.Bytes.{Bytes}
 use Rattle.tl_fetch.specs.declared.fault.FetchFault.{FetchFault}
 use Rattle.tl_cli.specs.declared.fault.CommandFault.{CommandFault}
 use Rattle.tl_serve.specs.Knowing.{RefusesLog}
 use Rattle.tl_serve.specs.declared.witness_fault.WitnessFault.{WitnessFault}
-use Rattle.tl_cli.specs.Ending.{by_fetch, by_run, by_witness, status_of}
+use Rattle.tl_cli.specs.Ending.{by_fetch, by_prove, by_run, by_witness, status_of}
 use Rattle.tl_cli.specs.InBucket.{AppendsTo, ServesFrom}
 use Rattle.tl_cli.specs.Lasting.{Folder, AppendsIn, ServesIn, SparesStreams}
 use Rattle.tl_cli.specs.Told.{Tells}
@@ -72,18 +76,22 @@ abbrev pub key_kind : Bool → ℕ
 key_kind true = cosignature_kind
 key_kind false = note_kind
 
--- the outcome of a command has this property; that of `fetch` has; that of `witness` has
+-- the outcome of a command has this property; that of `fetch` or `feed` has; that of `verify`, `prove` or `submit`
+-- has; that of `witness` has
 abbrev pub IsRun : (Result (Unit {0}) RunFault → Type 0) → Result (Unit {0}) CommandFault → Type 0
 IsRun Is result = (outcome : Result (Unit {0}) RunFault) × Is outcome × (result ≡ by_run outcome)
 
 abbrev pub IsFetched : (Result (Unit {0}) FetchFault → Type 0) → Result (Unit {0}) CommandFault → Type 0
 IsFetched Is result = (outcome : Result (Unit {0}) FetchFault) × Is outcome × (result ≡ by_fetch outcome)
 
+abbrev pub IsProved : (Result (Unit {0}) ProveFault → Type 0) → Result (Unit {0}) CommandFault → Type 0
+IsProved Is result = (outcome : Result (Unit {0}) ProveFault) × Is outcome × (result ≡ by_prove outcome)
+
 abbrev pub IsWitness : (Result (Unit {0}) WitnessFault → Type 0) → Result (Unit {0}) CommandFault → Type 0
 IsWitness Is result = (outcome : Result (Unit {0}) WitnessFault) × Is outcome × (result ≡ by_witness outcome)
 
 -- a run of a job's command: `i` is its reader, `o` its writer, and `e` standard error, to which only `keygen`,
--- `fetch`, `feed` and the servers write; `folder` is the folder of a log that it had to itself, if it had one,
+-- `fetch`, `feed`, `submit` and the servers write; `folder` is the folder of a log that it had to itself, if it had one,
 -- whatever was there at first
 abbrev pub RunsJob : Held → Reached → Job → Option Folder → Passage → Passage → Passage → Result (Unit {0}) CommandFault → Type 0
 RunsJob held reached (Head options) folder i o e result = IsRun (RunsHead (string_bytes options.origin) i o) result × IsUnwritten e
@@ -115,6 +123,9 @@ RunsJob held reached (Witness options) folder i o e result =
     IsWitness (RefusesLog options.logs i) result × SparesStreams options i o
 RunsJob held reached (Fetch options) folder i o e result = IsFetched (RunsFetch options o) result × IsUnread i
 RunsJob held reached (Feed options) folder i o e result = IsFetched (RunsFeed options o) result × IsUnread i
+RunsJob held reached (Verify options) folder i o e result = IsProved (RunsVerify options i o) result × IsUnwritten e
+RunsJob held reached (Prove options) folder i o e result = IsProved (RunsProve options o) result × IsUnread i × IsUnwritten e
+RunsJob held reached (Submit options) folder i o e result = IsProved (RunsSubmit options o) result × IsUnread i
 RunsJob held reached Version folder i o e result = IsRun (PrintsVersion o) result × IsUnread i × IsUnwritten e
 RunsJob held reached (Help text) folder i o e result =
     IsRun (PrintsText (string_bytes text) o) result × IsUnread i × IsUnwritten e

@@ -7,4 +7,6 @@ pub mod Verify
 pub mod Accepted
 pub mod VerifyCommand
 pub mod Prove
+pub mod ProveCommand
+pub mod SubmitCommand
 pub mod Inner

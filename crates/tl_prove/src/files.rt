@@ -1,7 +1,8 @@
 //! The files that the options name: the policy's, and that of extra data.
 
-ghost use Rattle.std.specs.Prelude.{IfErr, option_map};
+ghost use Rattle.std.specs.Prelude.{IfErr, IfOk, option_map, vec_items};
 ghost use Rattle.tl_prove.specs.Faults.{IsOfFile, IsOfPolicy};
+ghost use Rattle.tl_prove.specs.ProveCommand.{HasExtra};
 ghost use Rattle.tl_prove.specs.Policies.{ReadsTerms, WritesExtra};
 
 use crate::fault::{NamedFile, ProveFault};
@@ -51,7 +52,8 @@ pub(crate) fn read_extra<H: Files>(
     alloc: Global,
     path: Option<&str>,
 ) -> Result<Option<Vec<u8>>, ProveFault>
-    ensures { IfErr result (IsOfFile NamedFile.Extra) }
+    ensures extra { IfOk result (λ extra. HasExtra path.entry (option_map vec_items extra)) }
+    ensures refused { IfErr result (IsOfFile NamedFile.Extra) }
 {
     let Some(path) = path else {
         return Ok(None);

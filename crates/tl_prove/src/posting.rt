@@ -1,12 +1,18 @@
 //! Posting an entry to a log.
 
+ghost use Rattle.std.specs.Prelude.{IfErr};
+ghost use Rattle.tl_device.specs.Device.{passage};
+ghost use Rattle.tl_http.specs.Post.{Posts, replied};
+ghost use Rattle.tl_prove.specs.SubmitCommand.{IsNotTaken, post_of};
+
 use crate::fault::ProveFault;
 use std::alloc::{AllocError, Global};
+use std::io::{Read, Write};
 use std::net::{Net, TcpStream};
 use std::str;
 use std::time::{Clock, Duration, Instant};
 use tl_device::{Counted, DeviceFault, Timed};
-use tl_http::{HttpFault, Post, post};
+use tl_http::{HttpFault, Post, Reply, post};
 use tl_source::{Url, connect};
 use tl_text::parse_size;
 
@@ -31,6 +37,29 @@ fn why_none(fault: HttpFault) -> DeviceFault {
     }
 }
 
+// Posts an entry, and returns the log's answer.
+fn post_over<I: Read, O: Write>(
+    alloc: Global,
+    reader: &mut Counted<I>,
+    writer: &mut Counted<O>,
+    host: &str,
+    target: &str,
+    entry: &[u8],
+) -> Result<Reply<Global>, HttpFault>
+    ensures { Posts (post_of host.now target.now entry.now) 64
+        (passage I.remaining reader.old reader.new) (passage O.contents writer.old writer.new)
+        (replied result) }
+{
+    let asked = Post {
+        host,
+        target,
+        body: entry,
+        statuses: &[200],
+        field: "Content-Type",
+    };
+    post(alloc, reader, writer, &asked, MOST_ANSWER)
+}
+
 // Returns the body of the log's answer to a post.
 fn answer_of<H: Net<Stream = TcpStream> + Clock>(
     rt: &H,
@@ -44,21 +73,16 @@ fn answer_of<H: Net<Stream = TcpStream> + Clock>(
     let stream = connect(rt, url, &start, limit)?;
     let mut reader = Counted::new(Timed::new(rt, &stream, start, limit));
     let mut writer = Counted::new(Timed::new(rt, &stream, start, limit));
-    let asked = Post {
-        host: url.authority,
-        target,
-        body: entry,
-        statuses: &[200],
-        field: "Content-Type",
-    };
-    match post(alloc, &mut reader, &mut writer, &asked, MOST_ANSWER) {
+    match post_over(alloc, &mut reader, &mut writer, url.authority, target, entry) {
         Ok(reply) => Ok(reply.body),
         Err(fault) => Err(why_none(fault)),
     }
 }
 
 // Returns the index that the log's answer is.
-fn index_of(answer: &[u8]) -> Result<u64, ProveFault> {
+fn index_of(answer: &[u8]) -> Result<u64, ProveFault>
+    ensures { IfErr result IsNotTaken }
+{
     let Ok(text) = str::from_utf8(answer) else {
         return Err(ProveFault::NoIndex);
     };
@@ -75,7 +99,9 @@ pub(crate) fn post_entry<H: Net<Stream = TcpStream> + Clock>(
     url: &Url<'_>,
     entry: &[u8],
     limit: Duration,
-) -> Result<u64, ProveFault> {
+) -> Result<u64, ProveFault>
+    ensures { IfErr result IsNotTaken }
+{
     let target = target_of(alloc, url)?;
     match answer_of(rt, alloc, url, target.as_str(), entry, limit) {
         Ok(answer) => index_of(answer.as_slice()),

@@ -1,5 +1,9 @@
 //! The command `prove`.
 
+ghost use Rattle.std.specs.Prelude.{◌≡◌, option_map, vec_items};
+ghost use Rattle.tl_device.specs.Device.{passage};
+ghost use Rattle.tl_prove.specs.ProveCommand.{IsShownAs, ProvesBy, ProvesFor, RunsProve, text_of};
+
 use crate::entry::given_entry;
 use crate::fault::ProveFault;
 use crate::files::{policy_of, policy_text, read_extra};
@@ -17,7 +21,9 @@ use tl_run::print_text;
 use tl_source::{FullSource, Lack, NamesLack};
 
 /// Returns a fault that names what the source lacked in its last call, if that is the reason.
-pub(crate) fn with_lack(fault: ProveFault, lack: Option<Lack>) -> ProveFault {
+pub(crate) fn with_lack(fault: ProveFault, lack: Option<Lack>) -> ProveFault
+    ensures { IsShownAs fault result }
+{
     match fault {
         ProveFault::Fetch(fault) => ProveFault::Fetch(name_lack(fault, lack)),
         _ => fault,
@@ -31,7 +37,10 @@ fn prove_by<S: ResourceSource + NamesLack>(
     text: &str,
     wanted: Wanted<'_>,
     extra: Option<Vec<u8>>,
-) -> Result<String, ProveFault> {
+) -> Result<String, ProveFault>
+    ensures { ProvesBy (S.may_answer source.now) (S.may_lack source.now) text.now wanted.entry
+        (option_map vec_items extra.entry) (text_of result) }
+{
     let policy = policy_of(alloc, text)?;
     match prove(alloc, source, &policy, wanted, extra) {
         Ok(proof) => Ok(proof),
@@ -46,7 +55,9 @@ fn proof_for<H: Files<File = File> + Net<Stream = TcpStream> + Clock>(
     options: &ProveOptions,
     text: &str,
     extra: Option<Vec<u8>>,
-) -> Result<String, ProveFault> {
+) -> Result<String, ProveFault>
+    ensures { ProvesFor options.now text.now (option_map vec_items extra.entry) (text_of result) }
+{
     let source = source_of(rt, alloc, options.from.as_str(), options.timeout)?;
     let source = FullSource::new(alloc, &source);
     match &options.wanted {
@@ -65,7 +76,9 @@ pub fn run_prove<H: Files<File = File> + Net<Stream = TcpStream> + Clock, W: Wri
     alloc: Global,
     options: &ProveOptions,
     writer: &mut Counted<W>,
-) -> Result<(), ProveFault> {
+) -> Result<(), ProveFault>
+    ensures { RunsProve options.now (passage W.contents writer.old writer.new) result }
+{
     let text = policy_text(rt, alloc, options.policy.as_str())?;
     let extra = read_extra(rt, alloc, options.extra.as_deref())?;
     let proof = proof_for(rt, alloc, options, text.as_str(), extra)?;

@@ -1,5 +1,12 @@
 //! The command `submit`.
 
+ghost use Rattle.std.specs.Prelude.{◌<◌, IfOk, option_map, vec_items};
+ghost use Rattle.tl_device.specs.Device.{passage};
+ghost use Rattle.tl_policy.specs.Terms.{terms_of};
+ghost use Rattle.tl_prove.specs.Inner.Proving.{LooksAt};
+ghost use Rattle.tl_prove.specs.ProveCommand.{text_of};
+ghost use Rattle.tl_prove.specs.SubmitCommand.{RunsSubmit, Submits};
+
 use crate::entry::given_entry;
 use crate::fault::ProveFault;
 use crate::files::{policy_of, policy_text, read_extra};
@@ -11,7 +18,7 @@ use std::alloc::{AllocError, Global};
 use std::fs::{File, Files};
 use std::io::Write;
 use std::net::{Net, TcpStream};
-use std::thread::{Threads, sleep};
+use std::thread::sleep;
 use std::time::{Clock, Duration, Instant};
 use tl_client::ResourceSource;
 use tl_device::{Counted, DeviceFault, write_whole};
@@ -41,8 +48,13 @@ fn look<S: ResourceSource>(
     source: &S,
     policy: &Policy<'_, Global>,
     index: u64,
-) -> Result<TrustedNote, ProveFault> {
-    let checkpoint = open_source(alloc, source, policy)?;
+) -> Result<TrustedNote, ProveFault>
+    ensures { LooksAt (S.may_answer source.now) (S.may_lack source.now) (terms_of policy.now) index result }
+{
+    let checkpoint = match open_source(alloc, source, policy) {
+        Ok(checkpoint) => checkpoint,
+        Err(fault) => return Err(fault),
+    };
     if checkpoint.head().size <= index {
         return Err(ProveFault::TooLate);
     }
@@ -59,7 +71,7 @@ fn is_over<H: Clock>(rt: &H, start: &Instant, limit: Duration) -> bool {
 
 // Returns the first checkpoint of the source that the policy trusts and that has the entry with this index, before
 // `limit` has passed since `start`.
-fn wait_for<H: Threads + Clock, S: ResourceSource>(
+fn wait_for<H: Clock, S: ResourceSource>(
     rt: &H,
     alloc: Global,
     source: &S,
@@ -67,18 +79,18 @@ fn wait_for<H: Threads + Clock, S: ResourceSource>(
     index: u64,
     start: &Instant,
     limit: Duration,
-) -> Result<TrustedNote, ProveFault> {
+) -> Result<TrustedNote, ProveFault>
+    ensures { LooksAt (S.may_answer source.now) (S.may_lack source.now) (terms_of policy.now) index result }
+{
     for _ in 0..u64::MAX {
-        let fault = match look(alloc, source, policy, index) {
+        match look(alloc, source, policy, index) {
             Ok(checkpoint) => return Ok(checkpoint),
-            Err(fault) => fault,
-        };
-        if !may_pass(&fault) || is_over(rt, start, limit) {
-            return Err(fault);
+            Err(fault) if !may_pass(&fault) || is_over(rt, start, limit) => return Err(fault),
+            Err(_) => {}
         }
         sleep(rt, Duration::from_millis(PAUSE));
     }
-    Err(ProveFault::TooLate)
+    look(alloc, source, policy, index)
 }
 
 // Says on a terminal that an entry was taken.
@@ -89,7 +101,7 @@ fn tell<E: Write>(alloc: Global, index: u64, errors: &mut Counted<E>) -> Result<
 }
 
 // Posts an entry to the log at this address, and returns the text of a proof of it under a policy.
-fn submit<H: Net<Stream = TcpStream> + Threads + Clock, E: Write>(
+fn submit<H: Net<Stream = TcpStream> + Clock, E: Write>(
     rt: &H,
     alloc: Global,
     url: Url<'_>,
@@ -98,7 +110,9 @@ fn submit<H: Net<Stream = TcpStream> + Threads + Clock, E: Write>(
     extra: Option<Vec<u8>>,
     limit: Duration,
     told: Option<&mut Counted<E>>,
-) -> Result<String, ProveFault> {
+) -> Result<String, ProveFault>
+    ensures { Submits url.entry (terms_of policy.now) entry.now (option_map vec_items extra.entry) (text_of result) }
+{
     let Ok(start) = Instant::now(rt) else {
         return Err(ProveFault::NotPosted(DeviceFault::System));
     };
@@ -125,7 +139,7 @@ fn submit<H: Net<Stream = TcpStream> + Threads + Clock, E: Write>(
 /// `verify` accepts under the same policy. It reads the files that the options name first. If `errors` is a terminal,
 /// it says there when the log has taken the entry.
 pub fn run_submit<
-    H: Files<File = File> + Net<Stream = TcpStream> + Threads + Clock,
+    H: Files<File = File> + Net<Stream = TcpStream> + Clock,
     W: Write,
     E: Write,
 >(
@@ -135,7 +149,9 @@ pub fn run_submit<
     writer: &mut Counted<W>,
     errors: &mut Counted<E>,
     is_terminal: bool,
-) -> Result<(), ProveFault> {
+) -> Result<(), ProveFault>
+    ensures { RunsSubmit options.now (passage W.contents writer.old writer.new) result }
+{
     let text = policy_text(rt, alloc, options.policy.as_str())?;
     let policy = policy_of(alloc, text.as_str())?;
     let entry = given_entry(rt, alloc, &options.entry)?;

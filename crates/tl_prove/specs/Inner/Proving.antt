@@ -14,6 +14,7 @@ use Rattle.tl_client.specs.declared.fault.ClientFault.{ClientFault}
 use Rattle.tl_fetch.specs.Entries.{RefusesBundle}
 use Rattle.tl_policy.specs.Terms.{Terms}
 use Rattle.tl_prove.specs.Prove.{IsFound, IsOpened, IsOther, RefusesFinding, RefusesSource, tree_of}
+use Rattle.tl_prove.specs.SubmitCommand.{RefusesLook}
 use Rattle.tl_prove.specs.declared.fault.ProveFault.{ProveFault}
 use Rattle.tl_prove.specs.declared.proving.TrustedNote.{TrustedNote}
 use Rattle.tl_prove.specs.declared.proving.Found.{Found}
@@ -63,3 +64,8 @@ abbrev pub LooksFor : (Resource → Bytes → Type 0) → (Resource → Type 0) 
 LooksFor answers lacks head wanted (Ok None) = AreOthersFrom head wanted 0
 LooksFor answers lacks head wanted (Ok (Some index)) = Unit {0}
 LooksFor answers lacks head wanted (Err why) = RefusesSome answers lacks head why
+
+-- looking for a checkpoint that the policy trusts and that has the entry with this index
+abbrev pub LooksAt : (Resource → Bytes → Type 0) → (Resource → Type 0) → Terms → ℕ → Result TrustedNote ProveFault → Type 0
+LooksAt answers lacks p index (Ok t) = OpensSource answers lacks p (Ok t)
+LooksAt answers lacks p index (Err fault) = RefusesLook answers lacks p index fault
