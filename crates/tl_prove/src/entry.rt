@@ -25,14 +25,14 @@ pub fn digest_of<R: Read>(reader: &mut Counted<R>) -> Result<[u8; 32], InputFaul
 {
     let mut hasher = Sha256::new();
     let mut buf = [0u8; 65536];
-    let mut length = 0;
-    while length <= MOST_DIGESTED {
+    let mut total = 0;
+    while total <= MOST_DIGESTED {
         match reader.read_some(&mut buf) {
             None => return Err(InputFault::Read),
             Some(0) => return Ok(hasher.finalize()),
             Some(count) => {
                 hasher.update(&buf[..count]);
-                length += count as u64;
+                total += count as u64;
             }
         }
     }
