@@ -36,7 +36,7 @@ module _ (p : Terms) (bytes text : List ℕ) (lines seen : List Signature) (item
         noted = noted_seen;
         first = signer_is (Some place) found;
         at = ap (λ (ls : List LogTerm). slice_get ls place) shown ∙ ap (λ (ls : List PolicyLog). slice_get (map log_term ls) place) (sym listed)
-          ∙ slice_get-map log_term logs place ∙ ap (λ (o : Option PolicyLog). option_map log_term o) (slice_get-get_or logs place d less);
+            ∙ slice_get-map log_term logs place ∙ ap (λ (o : Option PolicyLog). option_map log_term o) (slice_get-get_or logs place d less);
       }
 
   pub unsigned : None ≡ position (λ l. has_line seen (log_term l)) logs → (t : List ℕ) × (ls : List Signature) × Note bytes t ls × (signer_of p ls ≡ None)
