@@ -7,4 +7,5 @@ pub mod NeedLaws
 pub mod ReadingLaws
 pub mod SatisfiedLaws
 pub mod ThresholdLaws
+pub mod TrustLaws
 pub mod WordLaws

@@ -73,15 +73,6 @@ group_result {A} set groups place count group r less read counted is =
     ∙ ap (λ (g : GroupTerm). is_group_satisfied set (take place held) g) term
     ∙ sym (group_at set (map group_term groups) place (group_term group) (omega (arith, less, length-map groups (group_term {A = A}))))
 
--- once all its members were counted
-pub group_found : {A : Type 0} (set : List Bool) (groups : List (PolicyGroup A)) (place count index : ℕ) (group : PolicyGroup A) → place < length groups → group ≡ get_or groups place group
-    → length (vec_items group.members) ≤ index → count ≡ count_by (is_member_satisfied set (take place (satisfied_groups set (map group_term groups)))) (take index (vec_items group.members))
-    → nat_le group.threshold count ≡ get_or (satisfied_groups set (map group_term groups)) place false
-group_found set groups place count index group less read all counted =
-    group_result set groups place count group (nat_le group.threshold count) less read
-    (counted ∙ ap (λ (ms : List Member). count_by (is_member_satisfied set (take place (satisfied_groups set (map group_term groups)))) ms) (take_all index (vec_items group.members) all))
-    refl
-
 -- a group that stands before a place
 pub before_place : (held : List Bool) (before place : ℕ) (r : Bool) → place < before → r ≡ get_or held place false → r ≡ get_or (take before held) place false
 before_place held before place r less is = is ∙ sym (get_or-take before held place false less)

@@ -7,3 +7,5 @@ pub
     mod Drafts
 pub
     mod Trusting
+pub
+    mod Told

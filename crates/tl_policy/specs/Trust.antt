@@ -3,13 +3,12 @@ use Rattle.std.specs.Prelude.{◌≡◌, ◌≢◌, ℕ, Bool, true, false, List
 use Rattle.std.specs.List.{list_any}
 use Rattle.std.specs.Option.{option_map_or}
 use Rattle.tl_hash.specs.Bytes.{Bytes}
-use Rattle.tl_key.specs.NoteKey.{PublicKey, verifier_key}
+use Rattle.tl_key.specs.NoteKey.{verifier_key}
 use Rattle.tl_note.specs.Key.{Key}
 use Rattle.tl_note.specs.Note.{HasNoNote, IsNote, Note, Signature}
 use Rattle.tl_note.specs.Open.{is_of}
 use Rattle.tl_checkpoint.specs.Checkpoint.{Head, IsHead, checkpoint_text, head_of}
 use Rattle.tl_checkpoint.specs.ParseCheckpoint.{ParsesCheckpoint}
-use Rattle.tl_checkpoint.specs.declared.checkpoint.CheckpointFault.{CheckpointFault}
 use Rattle.tl_checkpoint.specs.declared.checkpoint.CheckpointFault.TheVariants as why
 use Rattle.tl_policy.specs.declared.trust.Trusted.{Trusted}
 use Rattle.tl_policy.specs.declared.trust_fault.TrustFault.{TrustFault}

@@ -1,6 +1,8 @@
 //! Why a text is no policy's.
 
 ghost use Rattle.std.specs.Prelude.{◌≡◌};
+ghost use Rattle.tl_policy.specs.FaultWords.{policy_words};
+ghost use Rattle.tl_policy.specs.Inner.Told.{told};
 ghost use Rattle.tl_policy.specs.declared.fault.PolicyFault.TheVariants.{OutOfMemory};
 
 use std::alloc::{AllocError, AllocFailed};
@@ -43,28 +45,36 @@ impl Clone for PolicyFault {
     }
 }
 
+// The line of a fault, if it is of one, and what is wrong.
+fn parts(fault: &PolicyFault) -> (Option<u64>, &'static str)
+    ensures { told result.0 result.1.now ≡ policy_words fault.now }
+{
+    match fault {
+        PolicyFault::Malformed(line) => (Some(*line), "malformed"),
+        PolicyFault::TwiceNamed(line) => (Some(*line), "name given twice"),
+        PolicyFault::BadKey(line) => (Some(*line), "bad key"),
+        PolicyFault::TwiceKeyed(line) => (Some(*line), "key given twice"),
+        PolicyFault::TooManyGroups(line) => (Some(*line), "more than 1024 groups"),
+        PolicyFault::UnknownMember(line) => (Some(*line), "unknown member"),
+        PolicyFault::TwiceMember(line) => (Some(*line), "member of two groups"),
+        PolicyFault::BadThreshold(line) => (Some(*line), "bad threshold"),
+        PolicyFault::SecondQuorum(line) => (Some(*line), "second quorum"),
+        PolicyFault::NoLog => (None, "no log"),
+        PolicyFault::NoQuorum => (None, "no quorum"),
+        PolicyFault::OutOfMemory => (None, "out of memory"),
+    }
+}
+
 impl Display for PolicyFault {
     ghost use Rattle.std.specs.Prelude.{Some};
-    ghost use Rattle.tl_policy.specs.FaultWords.{policy_words};
 
     ghost output = { λ fault. Some (policy_words fault) };
 
     fn fmt<W: fmt::Write>(&self, f: &mut Formatter<W>) -> fmt::Result {
-        let (line, words) = match self {
-            PolicyFault::Malformed(line) => (line, "malformed"),
-            PolicyFault::TwiceNamed(line) => (line, "name given twice"),
-            PolicyFault::BadKey(line) => (line, "bad key"),
-            PolicyFault::TwiceKeyed(line) => (line, "key given twice"),
-            PolicyFault::TooManyGroups(line) => (line, "more than 1024 groups"),
-            PolicyFault::UnknownMember(line) => (line, "unknown member"),
-            PolicyFault::TwiceMember(line) => (line, "member of two groups"),
-            PolicyFault::BadThreshold(line) => (line, "bad threshold"),
-            PolicyFault::SecondQuorum(line) => (line, "second quorum"),
-            PolicyFault::NoLog => return f.write_str("no log"),
-            PolicyFault::NoQuorum => return f.write_str("no quorum"),
-            PolicyFault::OutOfMemory => return f.write_str("out of memory"),
-        };
-        write!(f, "line {line}: {words}")
+        match parts(self) {
+            (Some(line), words) => write!(f, "line {line}: {words}"),
+            (None, words) => f.write_str(words),
+        }
     }
 }
 

@@ -4,9 +4,10 @@ ghost use Rattle.std.specs.Prelude.{◌≡◌, IfOk, position};
 ghost use Rattle.std.specs.List.{list_any};
 ghost use Rattle.tl_key.specs.NoteKey.{verifier_key};
 ghost use Rattle.tl_note.specs.Open as note;
+ghost use Rattle.tl_policy.specs.Cosigned.{cosigners};
 ghost use Rattle.tl_policy.specs.Terms.{log_term, terms_of};
 ghost use Rattle.tl_policy.specs.Trust.{OpensUnder, has_line, is_signed};
-ghost use Rattle.tl_policy.specs.Inner.Trusting.{ChecksQuorum, ReadsOrigin};
+ghost use Rattle.tl_policy.specs.Inner.Trusting.{ChecksQuorum, ReadsSigned};
 
 use crate::policy::{Policy, PolicyLog};
 use crate::trust_fault::TrustFault;
@@ -67,14 +68,20 @@ fn is_signed<A: Allocator>(
     Ok(key.verify(text.as_bytes(), bytes.as_slice()))
 }
 
-// The checkpoint of a text, if it is one of the log with this key.
+// The checkpoint of a text that this key signed, if it is of that origin.
 fn checkpoint_of<A: Allocator + Copy>(
     alloc: A,
     text: &str,
+    lines: &[SigView<'_>],
     key: &NoteVerifier<Global>,
 ) -> Result<Checkpoint<A>, TrustFault>
-    ensures { ReadsOrigin text.now key.now.name result }
+    ensures { ReadsSigned text.now lines.now key.now result }
 {
+    match is_signed(alloc, text, lines, key) {
+        Ok(true) => {}
+        Ok(false) => return Err(TrustFault::InvalidSignature),
+        Err(_) => return Err(TrustFault::OutOfMemory),
+    }
     let checkpoint = match parse(alloc, text) {
         Ok(checkpoint) => checkpoint,
         Err(CheckpointFault::OutOfMemory) => return Err(TrustFault::OutOfMemory),
@@ -86,6 +93,17 @@ fn checkpoint_of<A: Allocator + Copy>(
     Ok(checkpoint)
 }
 
+// The set of those that have a time.
+fn set_of<A: Allocator>(alloc: A, times: &[Option<u64>]) -> Result<Vec<bool, A>, AllocError>
+    ensures { IfOk result (λ set. set.items ≡ cosigners times.now) }
+{
+    let mut set = Vec::new(alloc);
+    for time in times {
+        set.push(time.is_some())?;
+    }
+    Ok(set)
+}
+
 // Refuses times of witnesses that don't satisfy the quorum.
 fn check_quorum<A: Allocator + Copy>(
     alloc: A,
@@ -94,7 +112,10 @@ fn check_quorum<A: Allocator + Copy>(
 ) -> Result<(), TrustFault>
     ensures { ChecksQuorum (terms_of policy.now) times.now result }
 {
-    let set: Vec<bool, A> = times.iter().map(|time| time.is_some()).collect(alloc)?;
+    let set = match set_of(alloc, times) {
+        Ok(set) => set,
+        Err(_) => return Err(TrustFault::OutOfMemory),
+    };
     match policy.shortfall(set.as_slice()) {
         None => Ok(()),
         Some(short) => Err(TrustFault::NotSatisfied(short)),
@@ -116,19 +137,25 @@ pub fn open_under<A: Allocator + Copy>(
         Err(NoteFault::OutOfMemory) => return Err(TrustFault::OutOfMemory),
         Err(_) => return Err(TrustFault::NoNote),
     };
-    let Some(log) = signer_of(policy.logs.as_slice(), view.signatures.as_slice()) else {
+    let logs = policy.logs.as_slice();
+    let lines = view.signatures.as_slice();
+    let Some(log) = signer_of(logs, lines) else {
         return Err(TrustFault::Unsigned);
     };
-    let key = &policy.logs[log].key;
-    if !is_signed(alloc, view.text, view.signatures.as_slice(), key)? {
-        return Err(TrustFault::InvalidSignature);
+    let checkpoint = match checkpoint_of(alloc, view.text, lines, &logs[log].key) {
+        Ok(checkpoint) => checkpoint,
+        Err(fault) => return Err(fault),
+    };
+    let times = match policy.cosigned_by(alloc, view.text, lines) {
+        Ok(times) => times,
+        Err(_) => return Err(TrustFault::OutOfMemory),
+    };
+    match check_quorum(alloc, policy, times.as_slice()) {
+        Ok(()) => Ok(Trusted {
+            checkpoint,
+            log,
+            times,
+        }),
+        Err(fault) => Err(fault),
     }
-    let checkpoint = checkpoint_of(alloc, view.text, key)?;
-    let times = policy.cosigned_by(alloc, view.text, view.signatures.as_slice())?;
-    check_quorum(alloc, policy, times.as_slice())?;
-    Ok(Trusted {
-        checkpoint,
-        log,
-        times,
-    })
 }
