@@ -6,3 +6,4 @@ pub mod CutLemmas
 pub mod Listed
 pub mod ParseLemmas
 pub mod WriteLemmas
+mod ShortPaths

@@ -46,7 +46,8 @@ mod writing;
 
 pub use checking::{EntryFault, check_entry};
 pub use law::{
-    accepted_entries_are_listed, no_proof_is_refused, text_has_one_fault, text_is_one_proof,
+    accepted_entries_are_listed, accepted_proofs_are_short, no_proof_is_refused,
+    text_has_one_fault, text_is_one_proof,
 };
 pub use parsing::parse_proof;
 pub use proof::{MOST_HASHES, OfflineProof, ProofFault, WriteFault};

@@ -1,6 +1,7 @@
 //! A proof, and why a text is none.
 
 ghost use Rattle.std.specs.Prelude.{◌≡◌};
+ghost use Rattle.tl_offline.specs.FaultWords.{line_words, wrong_line};
 
 use std::alloc::{AllocError, Allocator};
 use std::error::Error;
@@ -43,6 +44,36 @@ pub enum ProofFault {
     OutOfMemory,
 }
 
+// Returns the number of the line that is wrong; 0 if memory ran out.
+fn wrong_line(fault: &ProofFault) -> usize
+    ensures { result ≡ wrong_line fault.now }
+{
+    match fault {
+        ProofFault::NoHeader => 1,
+        ProofFault::BadExtra => 2,
+        ProofFault::NoIndex(line)
+        | ProofFault::NoHash(line)
+        | ProofFault::TooMany(line)
+        | ProofFault::NoCheckpoint(line) => *line,
+        ProofFault::OutOfMemory => 0,
+    }
+}
+
+// Returns what is wrong with that line.
+fn line_words(fault: &ProofFault) -> &'static str
+    ensures { result.now ≡ line_words fault.now }
+{
+    match fault {
+        ProofFault::NoHeader => "isn't c2sp.org/tlog-proof@v1",
+        ProofFault::BadExtra => "has extra data that aren't base64",
+        ProofFault::NoIndex(_) => "isn't an index",
+        ProofFault::NoHash(_) => "isn't a hash",
+        ProofFault::TooMany(_) => "is one hash too many",
+        ProofFault::NoCheckpoint(_) => "is missing: no checkpoint follows",
+        ProofFault::OutOfMemory => "",
+    }
+}
+
 impl Display for ProofFault {
     ghost use Rattle.std.specs.Prelude.{Some};
     ghost use Rattle.tl_offline.specs.FaultWords.{proof_words};
@@ -50,16 +81,10 @@ impl Display for ProofFault {
     ghost output = { λ fault. Some (proof_words fault) };
 
     fn fmt<W: fmt::Write>(&self, f: &mut Formatter<W>) -> fmt::Result {
-        let (line, words) = match self {
-            ProofFault::NoHeader => (1, "isn't c2sp.org/tlog-proof@v1"),
-            ProofFault::BadExtra => (2, "has extra data that aren't base64"),
-            ProofFault::NoIndex(line) => (*line, "isn't an index"),
-            ProofFault::NoHash(line) => (*line, "isn't a hash"),
-            ProofFault::TooMany(line) => (*line, "is one hash too many"),
-            ProofFault::NoCheckpoint(line) => (*line, "is missing: no checkpoint follows"),
-            ProofFault::OutOfMemory => return f.write_str("out of memory"),
-        };
-        write!(f, "line {line} {words}")
+        match self {
+            ProofFault::OutOfMemory => f.write_str("out of memory"),
+            _ => write!(f, "line {} {}", wrong_line(self), line_words(self)),
+        }
     }
 }
 
