@@ -113,8 +113,8 @@ def transports(makers):
 # Lies
 
 def false_lines(key, content, earlier):
-    """Signature lines of a text that aren't the key's, by what is wrong: the clause, and the line. `earlier` is another
-    text."""
+    """Signature lines of a text that aren't the key's, by what is wrong: the clause, and the line. `earlier` is
+    another text."""
     stranger, mark, name = SeedKey(b's' * 32, key.name), key.mark(content), 'other.example'
     raised = mark[:32] + (int.from_bytes(mark[32:], 'little') + ORDER).to_bytes(32, 'little')
     return {

@@ -33,7 +33,9 @@ def add_command(words, seconds):
 def command(words, given):
     """The words of the command that was given; its program by the whole path, since it runs in other folders."""
     found = shutil.which(given.command[0])
-    return [os.path.abspath(found), *given.command[1:]] if found else words.error(f'{given.command[0]}: no such command')
+    if not found:
+        words.error(f'{given.command[0]}: no such command')
+    return [os.path.abspath(found), *given.command[1:]]
 
 
 def main(suite, words, run):
