@@ -109,8 +109,7 @@ def lines_more(makers):
                         'log-twin': f'log {SeedKey(sha(ORIGIN.encode()), "twin.example").verifier}',
                         'log-as-witness': f'witness d {SeedKey(sha(ORIGIN.encode()), "d", COSIGNER).verifier}'},
         'policy-names': {'twice-named': f'witness a {verifier}', 'named-group': f'witness g {verifier}',
-                         'group-witness': 'group a any b', 'named-none': f'witness none {verifier}',
-                         'group-none': 'group none any a', 'group-twice': 'group g any d'},
+                         'named-none': f'witness none {verifier}'},
         'policy-words': {'word': 'require 2', 'word-alone': 'logs', 'capitals': f'WITNESS d {verifier}',
                          'plural': f'witnesses d {verifier}', 'colon': f'witness: d {verifier}', 'comment': '// more',
                          'log-few': 'log', 'witness-few': 'witness d', 'witness-none': 'witness',
@@ -149,6 +148,9 @@ def texts(makers):
                           'none-first': [log, *witnesses, NONE, group, quorum],
                           'quorum-many': [log, *witnesses, group, 'quorum g a'],
                           'quorum-capitals': [log, *witnesses, group, 'quorum NONE']},
+        'policy-names': {'group-twice': [log, *witnesses, 'group g any a', 'group g any b', quorum],
+                         'group-witness': [log, *witnesses, 'group a any b', 'quorum a'],
+                         'group-none': [log, *witnesses, 'group none any a', NONE]},
         'policy-log': {'no-log': [*witnesses, group, quorum], 'no-log-none': [NONE], 'nothing': [],
                        'comments-alone': [f'# {log}', f'# {quorum}']}}
 
