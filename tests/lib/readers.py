@@ -1,7 +1,7 @@
 """Readers of texts and bytes, written after the standards (C2SP signed-note, tlog-checkpoint, tlog-tiles,
-tlog-witness, tlog-proof and tlog-policy; RFC 8032, 9112 and 9162), with nothing of the program's own: what these say is
-due where the program is given such bytes. What isn't such a text is None, or a fault's name. Those that conformance/
-needs, too, stand in conformance/suite. """
+tlog-witness, tlog-proof and tlog-policy; RFC 8032, 9112 and 9162), with nothing of the program's own: what these say
+is due where the program is given such bytes. What isn't such a text is None, or a fault's name. Those that
+conformance/ needs, too, stand in conformance/suite. """
 import re
 
 from suite.keys import is_sound  # noqa: F401
