@@ -4,7 +4,7 @@ MISTAKES = [('AnyNumber', 'index.zeros'), ('Wraps', 'index.wrapped'), ('NoExtra'
             ('AnyEnds', 'gap.crlf'), ('AnyVersion', 'version.other'), ('Unsigned', 'hashes.64'),
             ('NoSize', 'index.beyond-1'), ('MoreHashes', 'hashes.long'), ('Sides', 'index.next'),
             ('NoLog', 'signature.changed'), ('AnyKey', 'signature.stranger'), ('FirstLog', 'policy.logs-last'),
-            ('NoOrigin', 'origin.other'), ('AnyScalar', 'signature.scalar'), ('OneLine', 'note.lines'),
+            ('NoOrigin', 'origin.other'), ('AnyScalar', 'signature.scalar'), ('KnownLines', 'note.lines'),
             ('Rebuilt', 'cosigned.rebuilt'), ('Plain', 'cosigned.plain'), ('ByName', 'cosigned.twin'),
             ('Lines', 'count.twice'), ('OneLess', 'quorum.2-of-3-a'), ('Nobody', 'quorum.any-nobody'),
             ('Flat', 'quorum.two-deep-cde'), ('AnyIsAll', 'quorum.any-a'), ('AnyWord', 'no-policy.word'),
