@@ -38,7 +38,10 @@ fn push_witnesses<A: Allocator>(
     ensures { OnOk result (string_bytes text.new
         ≡ string_bytes text.old ++ witness_lines (map witness_term witnesses.now) times.now) }
 {
-    let ([witness, witnesses @ ..], [time, times @ ..]) = (witnesses, times) else {
+    let [witness, witnesses @ ..] = witnesses else {
+        return Ok(());
+    };
+    let [time, times @ ..] = times else {
         return Ok(());
     };
     push_witness(text, witness.name, *time)?;

@@ -1,13 +1,18 @@
 //! Whether a proof shows an entry under a policy.
 
+ghost use Rattle.sha2.specs.Sha256.{sha256};
+ghost use Rattle.tl_checkpoint.specs.Checkpoint.{head_of};
+ghost use Rattle.tl_offline.specs.CheckEntry.{ChecksEntry};
+ghost use Rattle.tl_offline.specs.ProofText.{proof_of};
 ghost use Rattle.tl_policy.specs.Terms.{terms_of};
 ghost use Rattle.tl_prove.specs.Verify.{OpensNote, Verifies, VerifiesText};
 
 use crate::fault::Refusal;
 use std::alloc::Allocator;
 use std::str;
+use tl_checkpoint::Checkpoint;
 use tl_hash::{Hash, Sha256Tree};
-use tl_offline::{ProofFault, check_entry, parse_proof};
+use tl_offline::{EntryFault, OfflineProof, ProofFault, check_entry, parse_proof};
 use tl_policy::{Policy, TrustFault, Trusted, open_under};
 
 /// What an accepted proof shows: the entry is at this index of the log with this checkpoint.
@@ -37,6 +42,24 @@ fn open_note<A: Allocator + Copy>(
     }
 }
 
+// Checks that the entry with this leaf hash is at the proof's index under a checkpoint.
+fn check_under<A: Allocator>(
+    proof: &OfflineProof<'_, A>,
+    checkpoint: &Checkpoint<A>,
+    leaf: Hash,
+) -> Result<(), EntryFault>
+    ensures { ChecksEntry sha256 (proof_of proof.now) (head_of checkpoint.now).size
+        (head_of checkpoint.now).root leaf result }
+{
+    check_entry(
+        Sha256Tree,
+        proof,
+        checkpoint.size,
+        checkpoint.root,
+        leaf,
+    )
+}
+
 // Returns what a text shows of the entry with this leaf hash.
 fn verify_text<A: Allocator + Copy>(
     alloc: A,
@@ -55,15 +78,15 @@ fn verify_text<A: Allocator + Copy>(
         Ok(trusted) => trusted,
         Err(why) => return Err(why),
     };
-    let (size, root) = (trusted.checkpoint.size, trusted.checkpoint.root);
-    match check_entry(Sha256Tree, &proof, size, root, leaf) {
-        Ok(()) => Ok(Verified {
-            trusted,
-            index: proof.index,
-            extra: proof.extra,
-        }),
-        Err(fault) => Err(Refusal::Entry(fault)),
+    if let Err(fault) = check_under(&proof, &trusted.checkpoint, leaf) {
+        return Err(Refusal::Entry(fault));
     }
+    let OfflineProof { extra, index, .. } = proof;
+    Ok(Verified {
+        trusted,
+        index,
+        extra,
+    })
 }
 
 /// Returns what a proof shows of the entry with this leaf hash, if the policy accepts it: the bytes are a proof (C2SP
