@@ -280,7 +280,8 @@ fn fetch_as_asked<'s, H: Files<File = File> + HostClient, W: Write, E: Write>(
         (map (λ w. key w) policy.now.witnesses.now) policy.now.need policy.now.since) options.now
         (passage W.contents writer.old writer.new) result }
 {
-    let source = match source_of(rt, alloc, options.from.as_str(), options.timeout) {
+    let from = options.from.as_str();
+    let source = match source_of(rt, alloc, from, options.timeout) {
         Ok(source) => source,
         Err(fault) => return Err(fault),
     };

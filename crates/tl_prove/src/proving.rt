@@ -1,11 +1,11 @@
 //! A proof of an entry, of what a source has.
 
-ghost use Rattle.std.specs.Prelude.{◌≡◌, ◌≢◌, ◌<◌, ◌≤◌, ◌*◌, All, IfErr, IfOk, MatchBool, MatchOption, length, map, option_map, string_bytes, vec_items};
+ghost use Rattle.std.specs.Prelude.{◌≡◌, ◌≢◌, ◌<◌, IfErr, IfOk, MatchBool, MatchOption, length, map, option_map, string_bytes, vec_items};
 ghost use Rattle.tl_offline.specs.ProofText.{TlogProof};
 ghost use Rattle.tl_policy.specs.Terms.{terms_of};
 ghost use Rattle.tl_text.specs.Text.{IsSize};
 ghost use Rattle.tl_prove.specs.Prove.{IsProofFor, Proves, RefusesLeaf, RefusesProving};
-ghost use Rattle.tl_prove.specs.Inner.Proving.{Finds, LooksFor, LooksIn, OpensSource, ReadsCheckpoint, head_of};
+ghost use Rattle.tl_prove.specs.Inner.Proving.{Finds, HasNone, LooksFor, LooksIn, OpensSource, ReadsCheckpoint, head_of};
 
 
 use crate::fault::ProveFault;
@@ -13,7 +13,7 @@ use std::alloc::{AllocError, Global};
 use tl_client::{ClientFault, Head, ResourceSource, prove_entry, read_entries};
 use tl_fetch::{FetchFault, Nobody, client_refusal, fetch_entry};
 use tl_hash::{Hash, Sha256Tree, leaf_hash};
-use tl_offline::{OfflineProof, WriteFault, write_proof};
+use tl_offline::{OfflineProof, WriteFault, accepted_proofs_are_short, write_proof};
 use tl_policy::{Policy, TrustFault, Trusted, open_under};
 use tl_tile::{FetchedTiles, Resource, SourceFault};
 
@@ -85,8 +85,8 @@ fn is_same(one: &[u8], other: &[u8]) -> bool
 
 // Returns the place of the first of these entries that is this one.
 fn place_of(entries: &[Vec<u8>], entry: &[u8]) -> Option<usize>
-    ensures { MatchOption result
-        (All (λ e. e ≢ entry.now) (map vec_items entries.now)) (λ place. place < length entries.now) }
+    ensures { MatchOption result (HasNone (map vec_items entries.now) entry.now)
+        (λ place. place < length entries.now) }
 {
     for place in 0..entries.len() {
         if is_same(entries[place].as_slice(), entry) {
@@ -195,6 +195,7 @@ pub(crate) fn prove_found<S: ResourceSource>(
         Ok(hashes) => hashes,
         Err(fault) => return Err(ProveFault::Fetch(client_refusal(fault))),
     };
+    accepted_proofs_are_short();
     let note = checkpoint.note.as_str();
     let proof = OfflineProof {
         extra,
@@ -205,7 +206,8 @@ pub(crate) fn prove_found<S: ResourceSource>(
     match write_proof(alloc, &proof) {
         Ok(text) => Ok(text),
         Err(WriteFault::OutOfMemory) => Err(ProveFault::from(AllocError)),
-        Err(_) => unreachable!(),
+        Err(WriteFault::Index) => unreachable!(),
+        Err(WriteFault::TooMany) => unreachable!(),
     }
 }
 

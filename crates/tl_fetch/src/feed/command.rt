@@ -110,7 +110,8 @@ fn feed_as_asked<'s, H: Files<File = File> + Net<Stream = TcpStream> + Clock, W:
         Ok(urls) => urls,
         Err(fault) => return Err(fault),
     };
-    let source = match source_of(rt, alloc, options.log.from.as_str(), options.log.timeout) {
+    let from = options.log.from.as_str();
+    let source = match source_of(rt, alloc, from, options.log.timeout) {
         Ok(source) => source,
         Err(fault) => return Err(fault),
     };

@@ -1,5 +1,5 @@
 -- Steps of making a proof.
-use Rattle.std.specs.Prelude.{◌≡◌, ◌⊎◌, ℕ, ◌*◌, ◌+◌, ◌<◌, ◌≤◌, Result, Ok, Err, Option, None, Some, string_bytes, vec_items}
+use Rattle.std.specs.Prelude.{◌≡◌, ◌≢◌, ◌⊎◌, ℕ, ◌*◌, ◌+◌, ◌<◌, ◌≤◌, List, [], length, slice_index_or, Result, Ok, Err, Option, None, Some, string_bytes, vec_items}
 use Rattle.std.specs.Global.{Global}
 use Rattle.std.specs.declared.vec.Vec.{Vec}
 use Rattle.tl_hash.specs.Bytes.{Bytes}
@@ -41,6 +41,10 @@ OpensSource answers lacks p (Err fault) = RefusesSource answers lacks p fault
 abbrev pub Finds : (Resource → Bytes → Type 0) → (Resource → Type 0) → Head → Wanted → Result Found ProveFault → Type 0
 Finds answers lacks head wanted (Ok found) = IsFound head wanted found.index found.leaf
 Finds answers lacks head wanted (Err fault) = RefusesFinding answers lacks head wanted fault
+
+-- none of these entries is this one
+abbrev pub HasNone : List Bytes → Bytes → Type 0
+HasNone entries wanted = (place : ℕ) → place < length entries → slice_index_or entries place [] ≢ wanted
 
 -- the log's entries from this index on are others
 abbrev pub AreOthersFrom : Head → Bytes → ℕ → Type 0

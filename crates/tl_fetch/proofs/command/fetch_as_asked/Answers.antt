@@ -7,4 +7,5 @@ use Rattle.tl_fetch.proofs.command.fetch_as_asked.Goals as goal
 pub returns : goal.returns
 returns g c =
     let options = c.args.options.now in
-    renamed _ options (origin_of c.new-source.result) c.lack.result _ _ _ (subst (λ s. IsOriginOf (string_bytes options.from) (origin_of s)) (sym c.new-source.ensures) c.in-Ok.ensures.found) c.with_lack.ensures c.fetch_through-outcome.ensures
+    renamed _ options (origin_of c.new-source.result) c.lack.result _ _ _ (subst (λ s. IsOriginOf (string_bytes options.from) (origin_of s)) (sym c.new-source.ensures)
+    (subst (λ t. IsOriginOf t (origin_of c.in-Ok.source)) c.as_str-from.ensures.value c.in-Ok.ensures.found)) c.with_lack.ensures c.fetch_through-outcome.ensures

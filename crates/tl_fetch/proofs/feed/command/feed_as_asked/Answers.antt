@@ -13,7 +13,8 @@ returns-in-Err g c =
 pub returns : goal.returns
 returns g c =
     let options = c.args.options.now in
-    feed_renamed _ options (origin_of c.new-source.result) c.lack.result _ _ _ (subst (λ s. IsOriginOf (string_bytes options.log.from) (origin_of s)) (sym c.new-source.ensures) c.in-Ok-source_of.ensures.found) c.with_lack.ensures c.feed_with_state-outcome.ensures
+    feed_renamed _ options (origin_of c.new-source.result) c.lack.result _ _ _ (subst (λ s. IsOriginOf (string_bytes options.log.from) (origin_of s)) (sym c.new-source.ensures)
+    (subst (λ t. IsOriginOf t (origin_of c.in-Ok-source_of.source)) c.as_str-from.ensures.value c.in-Ok-source_of.ensures.found)) c.with_lack.ensures c.feed_with_state-outcome.ensures
 
 pub returns-in-Err-source_of : goal.returns-in-Err-source_of
 returns-in-Err-source_of g c = grind (arith, common_steps)
