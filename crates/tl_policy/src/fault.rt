@@ -11,7 +11,7 @@ use std::fmt::{self, Display, Formatter};
 
 /// Why a text is no policy's. Lines are counted from 1. The first line that is wrong decides, and in it what stands
 /// first here; members are looked at one by one, and the name of a second quorum isn't.
-#[derive(Copy, Debug, PartialEq, Eq)]
+#[derive(Copy, Debug)]
 pub enum PolicyFault {
     /// The line begins with another word, or has too few words or too many.
     Malformed(u64),

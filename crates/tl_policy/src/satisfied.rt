@@ -60,7 +60,7 @@ fn count_satisfied<A: Allocator>(
 }
 
 /// How many members of a quorum are satisfied, and how many have to be.
-#[derive(Clone, Copy, Debug, PartialEq, Eq)]
+#[derive(Clone, Copy, Debug)]
 pub struct Shortfall {
     pub have: usize,
     pub want: usize,

@@ -10,7 +10,7 @@ use std::fmt::{self, Display, Formatter};
 use tl_checkpoint::CheckpointFault;
 
 /// Why a policy trusts no checkpoint of a note, in the order in which it is found.
-#[derive(Copy, Debug, PartialEq, Eq)]
+#[derive(Copy, Debug)]
 pub enum TrustFault {
     /// The bytes are no note.
     NoNote,
