@@ -1,7 +1,7 @@
-use Rattle.std.proofs.Common.{string_bytes, subst, sym, arith}
-use Rattle.std.proofs.lemmas.Grind.{common_steps}
+use Rattle.std.proofs.Common.{string_bytes, subst, sym, inl}
 use Rattle.tl_source.specs.Sources.{origin_of}
-use Rattle.tl_fetch.specs.Command.{IsOriginOf}
+use Rattle.tl_source.specs.Url.{IsNoUrl}
+use Rattle.tl_fetch.specs.Command.{HasScheme, IsOriginOf}
 use Rattle.tl_fetch.proofs.FeedLemmas.{bad_texts, feed_renamed, no_address}
 use Rattle.tl_fetch.proofs.Passages.{still}
 use Rattle.tl_fetch.proofs.feed.command.feed_as_asked.Goals as goal
@@ -17,4 +17,7 @@ returns g c =
     (subst (λ t. IsOriginOf t (origin_of c.in-Ok-source_of.source)) c.as_str-from.ensures.value c.in-Ok-source_of.ensures.found)) c.with_lack.ensures c.feed_with_state-outcome.ensures
 
 pub returns-in-Err-source_of : goal.returns-in-Err-source_of
-returns-in-Err-source_of g c = grind (arith, common_steps)
+returns-in-Err-source_of g c =
+    let why = c.in-Err-source_of.ensures.refused in
+    let from = c.as_str-from.ensures.value in
+    no_address _ c.args.options.now c.in-Err-source_of.fault _ (still _ _) (inl (why.0, subst HasScheme from why.1, subst IsNoUrl from why.2))
