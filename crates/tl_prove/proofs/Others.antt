@@ -27,11 +27,6 @@ one_more xs wanted place x inside read other before k below =
           λ is. other (ap vec_items read ∙ sym (get_or-map vec_items xs place x [] inside) ∙ ap (λ (j : ℕ). slice_index_or (map vec_items xs) j []) (sym here) ∙ is))
     ]
 
--- all of them
-pub none_of : {A : Type 0} (xs : List (Vec ℕ A)) (wanted : List ℕ) (place : ℕ) → length xs ≤ place
-    → ((k : ℕ) → k < place → slice_index_or (map vec_items xs) k [] ≢ wanted) → HasNone (map vec_items xs) wanted
-none_of {A} xs wanted place all before k below = before k (omega (arith, all, below, length-map xs (vec_items {A = A})))
-
 -- an entry has a place in its bundle
 place_within : (size index : ℕ) → index < size → index % 256 < bundle_width size (index / 256)
 place_within size index below = grind arith

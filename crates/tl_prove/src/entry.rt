@@ -1,6 +1,8 @@
 //! The entry that the options of a command give.
 
 ghost use Rattle.std.specs.Prelude.{◌≡◌, ◌++◌, IfErr, IfOk, codes, option_map, string_bytes};
+ghost use Rattle.sha2.specs.Sha256.{sha256};
+ghost use Rattle.tl_hash.specs.Bytes.{Bytes};
 ghost use Rattle.tl_device.specs.Device.{passage};
 ghost use Rattle.tl_prove.specs.Entry.{DigestsWhole, IsGiven, name_words};
 ghost use Rattle.tl_prove.specs.Faults.{IsOfFile};
@@ -59,7 +61,9 @@ pub fn digest_entry(
 }
 
 // Returns SHA-256 of the plain file at this path.
-fn digest_at<H: Files<File = File>>(rt: &H, path: &str) -> Result<[u8; 32], DeviceFault> {
+fn digest_at<H: Files<File = File>>(rt: &H, path: &str) -> Result<[u8; 32], DeviceFault>
+    ensures { IfOk result (λ digest. (bytes : Bytes) × (digest ≡ sha256 bytes)) }
+{
     if !metadata(rt, path)?.is_file() {
         return Err(DeviceFault::NotPlain);
     }

@@ -39,7 +39,7 @@ fn prove_by<S: ResourceSource + NamesLack>(
     extra: Option<Vec<u8>>,
 ) -> Result<String, ProveFault>
     ensures { ProvesBy (S.may_answer source.now) (S.may_lack source.now) text.now wanted.entry
-        (option_map vec_items extra.entry) (text_of result) }
+        (option_map vec_items extra) (text_of result) }
 {
     let policy = policy_of(alloc, text)?;
     match prove(alloc, source, &policy, wanted, extra) {
@@ -56,7 +56,7 @@ fn proof_for<H: Files<File = File> + Net<Stream = TcpStream> + Clock>(
     text: &str,
     extra: Option<Vec<u8>>,
 ) -> Result<String, ProveFault>
-    ensures { ProvesFor options.now text.now (option_map vec_items extra.entry) (text_of result) }
+    ensures { ProvesFor options.now text.now (option_map vec_items extra) (text_of result) }
 {
     let source = source_of(rt, alloc, options.from.as_str(), options.timeout)?;
     let source = FullSource::new(alloc, &source);

@@ -5,7 +5,7 @@ ghost use Rattle.tl_offline.specs.ProofText.{TlogProof};
 ghost use Rattle.tl_policy.specs.Terms.{terms_of};
 ghost use Rattle.tl_text.specs.Text.{IsSize};
 ghost use Rattle.tl_prove.specs.Prove.{IsProofFor, Proves, RefusesLeaf, RefusesProving};
-ghost use Rattle.tl_prove.specs.Inner.Proving.{Finds, HasNone, LooksFor, LooksIn, OpensSource, ReadsCheckpoint, head_of};
+ghost use Rattle.tl_prove.specs.Inner.Proving.{Finds, HasNone, IsNoteOf, LooksFor, LooksIn, OpensSource, ReadsCheckpoint, head_of};
 
 
 use crate::fault::ProveFault;
@@ -56,6 +56,16 @@ fn checkpoint_of<S: ResourceSource>(alloc: Global, source: &S) -> Result<Vec<u8>
     }
 }
 
+// Returns the note that bytes are, if they are UTF-8.
+fn note_of(bytes: Vec<u8>) -> Result<String, ProveFault>
+    ensures { IsNoteOf bytes.items result }
+{
+    match String::from_utf8(bytes) {
+        Ok(note) => Ok(note),
+        Err(_) => Err(ProveFault::Untrusted(TrustFault::NoNote)),
+    }
+}
+
 /// Returns the checkpoint that a source has, if the policy trusts it.
 pub(crate) fn open_source<S: ResourceSource>(
     alloc: Global,
@@ -65,9 +75,13 @@ pub(crate) fn open_source<S: ResourceSource>(
     ensures { OpensSource (S.may_answer source.now) (S.may_lack source.now)
         (terms_of policy.now) result }
 {
-    let bytes = checkpoint_of(alloc, source)?;
-    let Ok(note) = String::from_utf8(bytes) else {
-        return Err(ProveFault::Untrusted(TrustFault::NoNote));
+    let bytes = match checkpoint_of(alloc, source) {
+        Ok(bytes) => bytes,
+        Err(fault) => return Err(fault),
+    };
+    let note = match note_of(bytes) {
+        Ok(note) => note,
+        Err(fault) => return Err(fault),
     };
     match open_under(alloc, policy, note.as_str()) {
         Ok(trusted) => Ok(TrustedNote { note, trusted }),
@@ -184,7 +198,7 @@ pub(crate) fn prove_found<S: ResourceSource>(
 ) -> Result<String, ProveFault>
     requires { IsSize (head_of checkpoint.now).size }
     ensures proof { IfOk result (λ text. (proof : TlogProof) × IsProofFor (head_of checkpoint.now)
-        (string_bytes checkpoint.now.note) found.index found.leaf (option_map vec_items extra.entry)
+        (string_bytes checkpoint.now.note) found.index found.leaf (option_map vec_items extra)
         (string_bytes text) proof) }
     ensures refused { IfErr result (RefusesLeaf (S.may_answer source.now) (S.may_lack source.now)
         (head_of checkpoint.now) found.index found.leaf) }
@@ -221,7 +235,7 @@ pub fn prove<S: ResourceSource>(
     extra: Option<Vec<u8>>,
 ) -> Result<String, ProveFault>
     ensures proof { IfOk result (λ text. Proves (S.may_answer source.now) (terms_of policy.now)
-        wanted.entry (option_map vec_items extra.entry) (string_bytes text)) }
+        wanted.entry (option_map vec_items extra) (string_bytes text)) }
     ensures refused { IfErr result (RefusesProving (S.may_answer source.now) (S.may_lack source.now)
         (terms_of policy.now) wanted.entry) }
 {

@@ -111,7 +111,7 @@ fn submit<H: Net<Stream = TcpStream> + Clock, E: Write>(
     limit: Duration,
     told: Option<&mut Counted<E>>,
 ) -> Result<String, ProveFault>
-    ensures { Submits url.entry (terms_of policy.now) entry.now (option_map vec_items extra.entry) (text_of result) }
+    ensures { Submits url.entry (terms_of policy.now) entry.now (option_map vec_items extra) (text_of result) }
 {
     let Ok(start) = Instant::now(rt) else {
         return Err(ProveFault::NotPosted(DeviceFault::System));

@@ -65,10 +65,22 @@ fn verify_by<H: Files<File = File>, R: Read, W: Write>(
     ensures { VerifiesBy text.now entry.now (passage R.remaining reader.old reader.new)
         (passage W.contents writer.old writer.new) result }
 {
-    let policy = policy_of(alloc, text)?;
-    let verified = verify_input(alloc, &policy, leaf_hash(Sha256Tree, entry), reader)?;
-    write_extra(rt, extra, verified.extra.as_deref())?;
-    print_accepted(alloc, &policy, &verified, writer)
+    let policy = match policy_of(alloc, text) {
+        Ok(policy) => policy,
+        Err(fault) => return Err(fault),
+    };
+    let leaf = leaf_hash(Sha256Tree, entry);
+    let verified = match verify_input(alloc, &policy, leaf, reader) {
+        Ok(verified) => verified,
+        Err(fault) => return Err(fault),
+    };
+    if let Err(fault) = write_extra(rt, extra, verified.extra.as_deref()) {
+        return Err(fault);
+    }
+    match print_accepted(alloc, &policy, &verified, writer) {
+        Ok(()) => Ok(()),
+        Err(fault) => Err(fault),
+    }
 }
 
 /// Reads a proof, the whole input, and prints `accepted`, the size of the log and the entry's index, and for each

@@ -1,5 +1,5 @@
 -- Steps of making a proof.
-use Rattle.std.specs.Prelude.{◌≡◌, ◌≢◌, ◌⊎◌, ℕ, ◌*◌, ◌+◌, ◌<◌, ◌≤◌, List, [], length, slice_index_or, Result, Ok, Err, Option, None, Some, string_bytes, vec_items}
+use Rattle.std.specs.Prelude.{◌≡◌, ◌≢◌, ◌⊎◌, ℕ, ◌*◌, ◌+◌, ◌<◌, ◌≤◌, List, [], length, slice_index_or, IsUtf8, Result, Ok, Err, Option, None, Some, String, string_bytes, vec_items}
 use Rattle.std.specs.Global.{Global}
 use Rattle.std.specs.declared.vec.Vec.{Vec}
 use Rattle.tl_hash.specs.Bytes.{Bytes}
@@ -9,10 +9,11 @@ use Rattle.tl_tile.specs.declared.resource.Resource.TheVariants.{Checkpoint}
 use Rattle.tl_checkpoint.specs.Checkpoint as checkpoint
 use Rattle.tl_fetch.specs.declared.fault.FetchFault.TheVariants as fetch
 use Rattle.tl_prove.specs.Faults.{out_of_memory}
-use Rattle.tl_prove.specs.declared.fault.ProveFault.TheVariants.{Fetch}
+use Rattle.tl_prove.specs.declared.fault.ProveFault.TheVariants.{Fetch, Untrusted}
 use Rattle.tl_client.specs.declared.fault.ClientFault.{ClientFault}
 use Rattle.tl_fetch.specs.Entries.{RefusesBundle}
 use Rattle.tl_policy.specs.Terms.{Terms}
+use Rattle.tl_policy.specs.declared.trust_fault.TrustFault.TheVariants as trust
 use Rattle.tl_prove.specs.Prove.{IsFound, IsOpened, IsOther, RefusesFinding, RefusesSource, tree_of}
 use Rattle.tl_prove.specs.SubmitCommand.{RefusesLook}
 use Rattle.tl_prove.specs.declared.fault.ProveFault.{ProveFault}
@@ -31,6 +32,11 @@ head_of t = tree_of (checkpoint_of t)
 abbrev pub ReadsCheckpoint : {A : Type 0} → (Resource → Bytes → Type 0) → (Resource → Type 0) → Result (Vec ℕ A) ProveFault → Type 0
 ReadsCheckpoint answers lacks (Ok bytes) = answers Checkpoint (vec_items bytes)
 ReadsCheckpoint answers lacks (Err fault) = ((fault ≡ Fetch fetch.Unavailable) × lacks Checkpoint) ⊎ (fault ≡ out_of_memory)
+
+-- the note of these bytes
+abbrev pub IsNoteOf : {A : Type 0} → Bytes → Result (String A) ProveFault → Type 0
+IsNoteOf bytes (Ok note) = string_bytes note ≡ bytes
+IsNoteOf bytes (Err fault) = ¬ (IsUtf8 bytes) × (fault ≡ Untrusted trust.NoNote)
 
 -- opening the source's checkpoint
 abbrev pub OpensSource : (Resource → Bytes → Type 0) → (Resource → Type 0) → Terms → Result TrustedNote ProveFault → Type 0
