@@ -1,3 +1,3 @@
-"""What the three programs of this folder share, and what tests/ takes from here: trees, keys, notes and tiles,
+"""What the four programs of this folder share, and what tests/ takes from here: trees, keys, notes and tiles,
 written after the public standards with Python's standard library alone.
 """

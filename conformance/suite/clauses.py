@@ -68,9 +68,33 @@ C2SP tlog-witness | add-checkpoint
   atomic | MUST | Two checkpoints are never cosigned from one: check and update are one step
   persists | MUST | What was cosigned is kept before the answer is sent
   posts | MUST | The request is a POST
+C2SP tlog-proof | Format
+  proof-text | MUST | A proof is UTF-8 lines, an empty one, and the checkpoint up to the end
+  proof-version | MUST | The first line is c2sp.org/tlog-proof@v1
+  proof-extra | MUST | Then any bytes in base64 may follow, behind `extra `, which don't change what is shown
+  proof-index | MUST | Then comes the index in decimal, below 2^63, behind `index `
+  proof-hashes | MUST | Then come the hashes of the inclusion proof in base64, a line each, the lowest first
+  proof-most | MUST | There are at most 63 hashes
+C2SP tlog-policy | Format
+  policy-lines | MUST | Words stand between spaces and tabs; empty lines and those that begin with # are passed over
+  policy-words | MUST | A line is of a log, a witness, a group or the quorum, and has the words of its kind
+  policy-log | MUST | There are one or more logs, and any of them is trusted
+  policy-keys | MUST | The keys are those of C2SP signed-note, and no public key is given twice
+  policy-names | MUST | No name is given twice, and none is `none`
+  policy-members | MUST | Members are witnesses and groups of earlier lines, and each stands in one group at most
+  policy-threshold | MUST | The threshold of a group is any, all, or a number from 1 to that of its members
+  policy-quorum | MUST | There is one line of a quorum, which names a witness, a group or `none`
+C2SP tlog-policy | Evaluation
+  policy-signed | MUST | A checkpoint counts if the key of a log of the policy signed it
+  policy-origin | MUST | Its origin is the name of that key
+  quorum-met | MUST | The witnesses whose cosignatures are valid have to satisfy the quorum, each counted once
+  group-met | MUST | A group is satisfied if as many of its members are as its threshold says
+  not-undone | SHOULD | A cosignature that isn't valid counts for nothing, and undoes nothing
 RFC 6962 | 2.1
   leaf | MUST | The hash of an entry is SHA-256 of 0x00 and the entry
   tree | MUST | The root is that of the Merkle tree of the entries
+RFC 6962 | 2.1.1
+  inclusion | MUST | The hashes lead from that of the entry, at the index, to the root of the tree of this size
 RFC 6962 | 2.1.2
   append-only | MUST | A later tree begins with an earlier one
   older | SHOULD | A log isn't shown smaller than it was seen

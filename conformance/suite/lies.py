@@ -3,7 +3,7 @@ right."""
 import functools
 
 from . import stage
-from .keys import COSIGNER, NOTE, ORDER, SeedKey, key_id, line_of
+from .keys import COSIGNER, NOTE, ORDER, SeedKey, cosigned_message, key_id, line_of
 from .notes import LARGEST, checkpoint, malformed
 from .tiles import bundle, resources
 from .tree import leaf, root
@@ -112,26 +112,37 @@ def transports(makers):
 
 # Lies
 
+def false_lines(key, content, earlier):
+    """Signature lines of a text that aren't the key's, by what is wrong: the clause, and the line. `earlier` is
+    another text."""
+    stranger, mark, name = SeedKey(b's' * 32, key.name), key.mark(content), 'other.example'
+    raised = mark[:32] + (int.from_bytes(mark[32:], 'little') + ORDER).to_bytes(32, 'little')
+    return {
+        'stranger': ('unknown-keys', stranger.line(content)),
+        'identifier': ('verified', line_of(key.name, key.id, stranger.mark(content))),
+        'earlier': ('verified', key.line(earlier)),
+        'changed': ('verified', line_of(key.name, key.id, mark[:40] + bytes([mark[40] ^ 1]) + mark[41:])),
+        'point': ('verified', line_of(key.name, key.id, bytes([mark[0] ^ 1]) + mark[1:])),
+        'cut': ('verified', line_of(key.name, key.id, mark[:-1])),
+        'zeros': ('verified', line_of(key.name, key.id, bytes(64))),
+        'name': ('unknown-keys', line_of(name, key_id(name, NOTE, key.public), mark)),
+        'kind': ('unknown-keys', line_of(key.name, key_id(key.name, COSIGNER, key.public), bytes(8) + mark)),
+        'scalar': ('scalar', line_of(key.name, key.id, raised))}
+
+
 def signatures(makers):
     """Checkpoints that the log's key didn't sign."""
-    log, key, content = makers.log(), makers.key, makers.text()
-    stranger, mark = SeedKey(b's' * 32, ORIGIN), key.mark(content)
-    raised = mark[:32] + (int.from_bytes(mark[32:], 'little') + ORDER).to_bytes(32, 'little')
-    notes = {
-        'stranger': ('unknown-keys', stranger.line(content)),
-        'identifier': ('verified', line_of(ORIGIN, key.id, stranger.mark(content))),
-        'earlier': ('verified', key.line(makers.text(SIZE - 1))),
-        'changed': ('verified', line_of(ORIGIN, key.id, mark[:40] + bytes([mark[40] ^ 1]) + mark[41:])),
-        'point': ('verified', line_of(ORIGIN, key.id, bytes([mark[0] ^ 1]) + mark[1:])),
-        'cut': ('verified', line_of(ORIGIN, key.id, mark[:-1])),
-        'zeros': ('verified', line_of(ORIGIN, key.id, bytes(64))),
-        'name': ('unknown-keys', line_of('other.example', key_id('other.example', NOTE, key.public), mark)),
-        'kind': ('unknown-keys', line_of(ORIGIN, key_id(ORIGIN, COSIGNER, key.public), bytes(8) + mark)),
-        'scalar': ('scalar', line_of(ORIGIN, key.id, raised))}
-    for name, (clause, line) in notes.items():
+    log, content = makers.log(), makers.text()
+    for name, (clause, line) in false_lines(makers.key, content, makers.text(SIZE - 1)).items():
         yield Scene(f'signature.{name}', clause, f"a line that isn't the key's ({name})",
                     {**log, CHECKPOINT: makers.with_lines(content, line)}, [CHECKPOINT])
     yield Scene('signature.none', 'verified', 'no line', {**log, CHECKPOINT: content}, [CHECKPOINT])
+
+
+def no_notes(note):
+    """What is no note, by what is wrong."""
+    return {'crlf': note.replace(b'\n', b'\r\n'), 'dash': note.replace('\u2014'.encode(), b'-'), 'page': PAGE,
+            'gap': note.replace(b'\n\n', b'\n'), 'empty': b'', 'control': note[:-1] + b'\t\n'}
 
 
 def texts(makers):
@@ -151,10 +162,7 @@ def texts(makers):
     other = checkpoint('other.example/log', SIZE, head(SIZE))
     yield Scene('origin.other', 'origin', "another log's checkpoint, signed by this one's key",
                 {**log, CHECKPOINT: makers.signed(other)}, [CHECKPOINT])
-    note = log[CHECKPOINT]
-    for name, other in (('crlf', note.replace(b'\n', b'\r\n')), ('dash', note.replace('\u2014'.encode(), b'-')),
-                        ('page', PAGE),
-                        ('gap', note.replace(b'\n\n', b'\n')), ('empty', b''), ('control', note[:-1] + b'\t\n')):
+    for name, other in no_notes(log[CHECKPOINT]).items():
         yield Scene(f'note.{name}', 'note', f'what is no note ({name})', {**log, CHECKPOINT: other}, [CHECKPOINT])
 
 
@@ -214,20 +222,26 @@ def growths(makers):
                 makers.log(SIZE), index=5)
 
 
+def false_cosignatures(witness, key, content, earlier):
+    """Lines that aren't the witness's cosignature of a text, by what is wrong: the clause, and the line. `earlier` is
+    another text, and `key` that of the log."""
+    other, twin = SeedKey(b'v' * 32, 'other.example', COSIGNER), SeedKey(b'v' * 32, witness.name, COSIGNER)
+    mark = witness.mark(cosigned_message(content, TIME))
+    return {'other': ('unknown-keys', other.cosigned(content, TIME)),
+            'twin': ('unknown-keys', twin.cosigned(content, TIME)),
+            'earlier': ('cosigned-message', witness.cosigned(earlier, TIME)),
+            'plain': ('cosigned-message', witness.line(content, TIME.to_bytes(8, 'big'))),
+            'note': ('cosignature', witness.line(content)),
+            'time': ('cosigned-message', line_of(witness.name, witness.id, (TIME + 1).to_bytes(8, 'big') + mark)),
+            'log': ('unknown-keys', key.cosigned(content, TIME))}
+
+
 def cosignatures(makers):
     """Checkpoints that the witness didn't cosign."""
-    log, key, content, witness = makers.log(), makers.key, makers.text(), makers.witness
-    other, twin = SeedKey(b'v' * 32, 'other.example', COSIGNER), SeedKey(b'v' * 32, witness.name, COSIGNER)
-    mark = witness.mark(b'cosignature/v1\ntime %d\n' % TIME + content)
-    lines = {'none': ('cosigned-message', b''), 'other': ('unknown-keys', other.cosigned(content, TIME)),
-             'twin': ('unknown-keys', twin.cosigned(content, TIME)),
-             'earlier': ('cosigned-message', witness.cosigned(makers.text(SIZE - 1), TIME)),
-             'plain': ('cosigned-message', witness.line(content, TIME.to_bytes(8, 'big'))),
-             'note': ('cosignature', witness.line(content)),
-             'time': ('cosigned-message', line_of(witness.name, witness.id, (TIME + 1).to_bytes(8, 'big') + mark)),
-             'log': ('unknown-keys', key.cosigned(content, TIME))}
-    for name, (clause, line) in lines.items():
-        note = content + b'\n' + key.line(content) + line
+    log, content = makers.log(), makers.text()
+    lines = false_cosignatures(makers.witness, makers.key, content, makers.text(SIZE - 1))
+    for name, (clause, line) in {'none': ('cosigned-message', b''), **lines}.items():
+        note = content + b'\n' + makers.key.line(content) + line
         yield Scene(f'cosigned.{name}', clause, f"without the witness's cosignature ({name})",
                     {**log, CHECKPOINT: note}, [CHECKPOINT],
                     needs='{witness}')

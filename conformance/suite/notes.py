@@ -4,7 +4,7 @@ What isn't such a text is None, or the name of a fault.
 import base64
 import re
 
-from .keys import is_valid
+from .keys import NOTE, is_sound, is_valid, key_id
 from .tree import text
 
 # White space of Unicode, plus, and what is below a space: not in a key's name.
@@ -111,7 +111,17 @@ def request_in(data):
     return None if not cut or None in (old, hashes) or len(hashes) > 63 else (old, hashes, note.encode())
 
 
-# Signatures
+# Keys and signatures
+
+def verifier_in(whole, kind=NOTE):
+    """Name, identifier and public key of a verifier's key of this type."""
+    parts = re.fullmatch(f'({NAME})\\+([0-9a-f]{{8}})\\+([A-Za-z0-9+/=]+)', whole)
+    data = parts and bytes_in(parts[3])
+    if not data or len(data) != 33 or data[0] != kind or not is_sound(data[1:]):
+        return None
+    id = key_id(parts[1], kind, data[1:]).hex()
+    return (parts[1], id, data[1:]) if id == parts[2] else None
+
 
 def marks_by(key, lines):
     """What a key signed with, of each of these lines that has its name and its identifier."""

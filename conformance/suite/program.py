@@ -1,4 +1,6 @@
-"""What the commands of the three programs share."""
+"""What the commands of the four programs share."""
+import os
+import shutil
 import sys
 
 from .keys import VerifierKey
@@ -18,6 +20,22 @@ def contents(path):
 def verifier(word):
     """The verifier key of an option: of its text, or of a file if it begins with `@`."""
     return VerifierKey(contents(word[1:]) if word.startswith('@') else word)
+
+
+def add_command(words, seconds):
+    """Adds to the words of a program those of the command that it runs, each run of which has these seconds."""
+    words.add_argument('--timeout', type=float, default=seconds, metavar='SECONDS',
+                       help=f'the time of each run (default: {seconds})')
+    words.add_argument('--jobs', type=int, default=4, metavar='N', help='runs at once (default: 4)')
+    words.add_argument('command', nargs='+', metavar='COMMAND', help='the command and its words, behind --')
+
+
+def command(words, given):
+    """The words of the command that was given; its program by the whole path, since it runs in other folders."""
+    found = shutil.which(given.command[0])
+    if not found:
+        words.error(f'{given.command[0]}: no such command')
+    return [os.path.abspath(found), *given.command[1:]]
 
 
 def main(suite, words, run):

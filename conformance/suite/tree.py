@@ -95,6 +95,15 @@ class Endless:
         """The root at a size."""
         return self.root(0, size) if size else sha(b'')
 
+    def path(self, index, size, start=0):
+        """The inclusion proof of an entry at a size; with `start`, among the entries from there on."""
+        if size == 1:
+            return []
+        left = split(size)
+        if index < left:
+            return self.path(index, left, start) + [self.root(start + left, start + size)]
+        return self.path(index - left, size - left, start + left) + [self.root(start, start + left)]
+
     def growth(self, old, size, start=0, is_whole=True):
         """The consistency proof from one size to another; with `start`, that of the entries from there on."""
         if old in (0, size):
@@ -103,6 +112,24 @@ class Endless:
         if old <= left:
             return self.growth(old, left, start, is_whole) + [self.root(start + left, start + size)]
         return self.growth(old - left, size - left, start + left, False) + [self.root(start, start + left)]
+
+
+def includes(index, size, hash, top, proof):
+    """Whether an inclusion proof is accepted (RFC 9162, section 2.1.3.2)."""
+    if index >= size:
+        return False
+    place, last = index, size - 1
+    for other in proof:
+        if last == 0:
+            return False
+        if place & 1 or place == last:
+            hash = node(other, hash)
+            while place and not place & 1:
+                place, last = place >> 1, last >> 1
+        else:
+            hash = node(hash, other)
+        place, last = place >> 1, last >> 1
+    return last == 0 and hash == top
 
 
 def grows(old, old_top, size, top, proof):

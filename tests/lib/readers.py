@@ -1,15 +1,17 @@
-"""Readers of texts and bytes, written after the standards (C2SP signed-note, tlog-checkpoint, tlog-tiles and
-tlog-witness; RFC 8032, 9112 and 9162), with nothing of the program's own: what these say is due where the program is
-given such bytes. What isn't such a text is None, or a fault's name. """
+"""Readers of texts and bytes, written after the standards (C2SP signed-note, tlog-checkpoint, tlog-tiles,
+tlog-witness, tlog-proof and tlog-policy; RFC 8032, 9112 and 9162), with nothing of the program's own: what these say
+is due where the program is given such bytes. What isn't such a text is None, or a fault's name. Those that
+conformance/ needs, too, stand in conformance/suite. """
 import re
 
-from suite.keys import unpacked
+from suite.keys import is_sound  # noqa: F401
 from suite.notes import (  # noqa: F401
     CONTROL, DIGITS, NAME, bytes_in, checkpoint_in, decoded, hash_in, hashes_in, note_in, number, request_in,
-    signature_lines)
+    signature_lines, verifier_in)
+from suite.offline import parse_policy, parse_proof, satisfied  # noqa: F401
 
-from .keys import ORIGIN, SeedKey, sum_of
-from .tree import grows, leaf, node, root, sha
+from .keys import ORIGIN, SeedKey
+from .tree import grows, includes, leaf, root, sha
 
 TOKEN = rb"[!#$%&'*+.^_`|~0-9A-Za-z-]+"
 FIELD = TOKEN + rb':[\t -~\x80-\xff]*\r?\n'
@@ -36,26 +38,6 @@ def opened(note, keys):
                 return f'InvalidSignature({place})'
             count.append(place)
     return (count, unknown) if count else 'Unverified'
-
-
-def is_sound(public):
-    """Whether 32 bytes are the one spelling of a point that isn't of small order (RFC 8032, section 5.1.3)."""
-    point = unpacked(public)
-    if point is None:
-        return False
-    for _ in range(3):
-        point = sum_of(point, point)
-    return point[0] != 0
-
-
-def verifier_in(whole):
-    """Name, identifier and public key of a verifier's key of notes."""
-    parts = re.fullmatch(f'({NAME})\\+([0-9a-f]{{8}})\\+([A-Za-z0-9+/=]+)', whole)
-    data = parts and bytes_in(parts[3])
-    if not data or len(data) != 33 or data[0] != 1 or not is_sound(data[1:]):
-        return None
-    id = sha(parts[1].encode() + b'\n' + data)[:4].hex()
-    return (parts[1], id, data[1:]) if id == parts[2] else None
 
 
 def signer_in(whole):
@@ -88,24 +70,6 @@ def entries_in(data, width):
         found.append(data[2:2 + length])
         data = data[2 + length:]
     return 'Trailing' if data else found
-
-
-def includes(index, size, hash, top, proof):
-    """Whether an inclusion proof is accepted (RFC 9162, section 2.1.3.2)."""
-    if index >= size:
-        return False
-    place, last = index, size - 1
-    for other in proof:
-        if last == 0:
-            return False
-        if place & 1 or place == last:
-            hash = node(other, hash)
-            while place and not place & 1:
-                place, last = place >> 1, last >> 1
-        else:
-            hash = node(hash, other)
-        place, last = place >> 1, last >> 1
-    return last == 0 and hash == top
 
 
 def proof_in(data):

@@ -1,5 +1,5 @@
 """The Merkle tree of conformance/suite, and the texts of its proofs, with nothing of the program's own."""
-from suite.tree import growth, grows, leaf, node, path, root, roots, sha, split, text  # noqa: F401
+from suite.tree import growth, grows, includes, leaf, node, path, root, roots, sha, split, text  # noqa: F401
 
 
 def lines_of(entries):
