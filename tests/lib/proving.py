@@ -1,5 +1,5 @@
-"""A log of 600 entries of many kinds, five witnesses, and policies of them: what `proofs` and `submit` try proofs that
-travel on (C2SP tlog-proof, tlog-policy).
+"""A log of 600 entries of many kinds, five witnesses, and policies of them: what `proofs`, `verify`, `policies` and
+`submit` try proofs that travel on (C2SP tlog-proof, tlog-policy).
 """
 import hashlib
 

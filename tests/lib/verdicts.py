@@ -53,7 +53,7 @@ def shortage(policy, cosigned):
 
 
 def trusted(policy, data):
-    """Size and root of a note's checkpoint, and the times of the policy's witnesses that cosigned it, by their names."""
+    """Size and root of a note's checkpoint, and when the policy's witnesses cosigned it, by their names."""
     note = note_in(data)
     need(note, 'no signed checkpoint')
     content, lines = note[0].encode(), note[1]
