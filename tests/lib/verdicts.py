@@ -3,7 +3,8 @@ readers of Python's own (C2SP tlog-proof, tlog-policy, tlog-cosignature). A refu
 """
 import copy
 
-from suite.notes import is_valid, marks_by
+from suite.keys import is_valid
+from suite.notes import marks_by
 from suite.offline import need
 
 from .keys import cosigned_message
