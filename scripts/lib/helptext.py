@@ -15,7 +15,7 @@ class Option:
 class Command:
     """A command's help: its name, its summary, its usage, groups of options by heading, paragraphs, and an example."""
     OPTION = re.compile(
-        r' +(?:-(?P<letter>\w), )? *--(?P<name>[a-z-]+)(?: <(?P<value>[A-Z=]+)>)?(?: {2,}(?P<help>.*))?')
+        r' +(?:-(?P<letter>\w), )? *--(?P<name>[a-z0-9-]+)(?: <(?P<value>[A-Z=]+)>)?(?: {2,}(?P<help>.*))?')
 
     def __init__(self, name, text):
         self.name, self.groups, self.paragraphs, self.example = name, {}, [], None

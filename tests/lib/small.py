@@ -3,12 +3,14 @@ answers. `memory` and `devices` run these, and have something fail."""
 import collections
 import os
 
+from suite.offline import proof_text
+
 from .harness import read, write
 from .keys import ORIGIN, SeedKey, checkpoint
 from .logs import bundle, listing, resources
 from .program import OCTETS, TEXT, answer
 from .serving import entries, files, post
-from .tree import consistency, growth, inclusion, leaf, lines_of, root, text
+from .tree import consistency, growth, inclusion, leaf, lines_of, path, root, text
 
 LOG, OTHER = SeedKey(bytes(range(32))), SeedKey(b'w' * 32, 'w.example', 4)
 ENTRIES = entries(7)
@@ -80,6 +82,23 @@ def commands():
         'fetch --all': Command((*fetch, '--all'), b'', grown, [entry + b'\n' for entry in ENTRIES[2:]]),
         'fetch --head': Command((*fetch, '--head'), b'', grown, [signed(7)]),
         'fetch --prove': Command((*fetch, '--prove', '3', '--cache', 'cache'), b'', grown, [proof]),
+        **travelling(),
+    }
+
+
+def travelling():
+    """The commands on proofs that travel."""
+    note = LOG.note(signed(7)) + OTHER.cosigned(signed(7), 7)
+    policy = f'log {LOG.verifier}\nwitness w {OTHER.verifier}\ngroup all any w\nquorum all\n'.encode()
+    start = {**log_of(7), 'log/checkpoint': note, 'policy': policy, 'data': b'more', 'entry': ENTRIES[3]}
+    plain, more = (proof_text(3, path(LEAVES, 3), note, extra) for extra in (None, b'more'))
+    prove, verify = ('prove', '--from', 'log', '--policy', 'policy'), ('verify', '--policy', 'policy')
+    shown = [b'accepted 7 3\nwitness w 7\n']
+    return {
+        'prove --index': Command((*prove, '--index', '3'), b'', start, [plain]),
+        'prove --entry-file': Command((*prove, '--entry-file', 'entry', '--extra', 'data'), b'', start, [more]),
+        'verify': Command((*verify, '--entry', ENTRIES[3].decode()), plain, start, shown),
+        'verify --extra-out': Command((*verify, '--entry-file', 'entry', '--extra-out', 'out'), more, start, shown),
     }
 
 
