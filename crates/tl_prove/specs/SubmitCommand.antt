@@ -77,6 +77,11 @@ abbrev pub RefusesTaken : (Resource → Bytes → Type 0) → (Resource → Type
 RefusesTaken answers lacks p entry fault =
     (index : ℕ) × (RefusesLook answers lacks p index fault ⊎ IsNotProved answers lacks p entry index fault)
 
+-- a proof of an entry that the log took, or why there is none
+abbrev pub ProvesTaken : (Resource → Bytes → Type 0) → (Resource → Type 0) → Terms → Bytes → Option Bytes → Result Bytes ProveFault → Type 0
+ProvesTaken answers lacks p entry extra (Ok text) = IsProofOf p entry extra text
+ProvesTaken answers lacks p entry extra (Err fault) = RefusesTaken answers lacks p entry fault
+
 -- posting the entry, and a proof of it, or why there is none
 abbrev pub Submits : Url → Terms → Bytes → Option Bytes → Result Bytes ProveFault → Type 0
 Submits url p entry extra (Ok text) = IsProofOf p entry extra text

@@ -27,10 +27,19 @@ fn target_of(alloc: Global, url: &Url<'_>) -> Result<String, AllocError> {
     Ok(target)
 }
 
-// Returns why the log gave no answer.
-fn why_none(fault: HttpFault) -> DeviceFault {
+// Reports whether `limit` has passed since `start`.
+pub(crate) fn is_late<H: Clock>(rt: &H, start: &Instant, limit: Duration) -> bool {
+    match start.elapsed(rt) {
+        Ok(elapsed) => elapsed >= limit,
+        Err(_) => true,
+    }
+}
+
+// Returns why the log gave no answer, if its time was over or wasn't.
+fn why_none(fault: HttpFault, is_late: bool) -> DeviceFault {
     match fault {
         HttpFault::Status(status) => DeviceFault::Status(status),
+        HttpFault::Read | HttpFault::Write if is_late => DeviceFault::TimedOut,
         HttpFault::Read | HttpFault::Write => DeviceFault::Broken,
         HttpFault::OutOfMemory => DeviceFault::OutOfMemory,
         _ => DeviceFault::NotHttp,
@@ -75,7 +84,7 @@ fn answer_of<H: Net<Stream = TcpStream> + Clock>(
     let mut writer = Counted::new(Timed::new(rt, &stream, start, limit));
     match post_over(alloc, &mut reader, &mut writer, url.authority, target, entry) {
         Ok(reply) => Ok(reply.body),
-        Err(fault) => Err(why_none(fault)),
+        Err(fault) => Err(why_none(fault, is_late(rt, &start, limit))),
     }
 }
 

@@ -16,7 +16,7 @@ use std::net::{Net, TcpStream};
 use std::time::Clock;
 use tl_client::ResourceSource;
 use tl_device::Counted;
-use tl_fetch::{name_lack, source_of};
+use tl_fetch::{FetchFault, name_lack, source_of};
 use tl_run::print_text;
 use tl_source::{FullSource, Lack, NamesLack};
 
@@ -41,7 +41,10 @@ fn prove_by<S: ResourceSource + NamesLack>(
     ensures { ProvesBy (S.may_answer source.now) (S.may_lack source.now) text.now wanted.entry
         (option_map vec_items extra) (text_of result) }
 {
-    let policy = policy_of(alloc, text)?;
+    let policy = match policy_of(alloc, text) {
+        Ok(policy) => policy,
+        Err(fault) => return Err(fault),
+    };
     match prove(alloc, source, &policy, wanted, extra) {
         Ok(proof) => Ok(proof),
         Err(fault) => Err(with_lack(fault, source.lack())),
@@ -58,14 +61,18 @@ fn proof_for<H: Files<File = File> + Net<Stream = TcpStream> + Clock>(
 ) -> Result<String, ProveFault>
     ensures { ProvesFor options.now text.now (option_map vec_items extra) (text_of result) }
 {
-    let source = source_of(rt, alloc, options.from.as_str(), options.timeout)?;
+    let from = options.from.as_str();
+    let source = match source_of(rt, alloc, from, options.timeout) {
+        Ok(source) => source,
+        Err(fault) => return Err(ProveFault::Fetch(fault)),
+    };
     let source = FullSource::new(alloc, &source);
     match &options.wanted {
         ProveRequest::Index(index) => prove_by(alloc, &source, text, Wanted::Index(*index), extra),
-        ProveRequest::Entry(entry) => {
-            let entry = given_entry(rt, alloc, entry)?;
-            prove_by(alloc, &source, text, Wanted::Entry(entry.as_slice()), extra)
-        }
+        ProveRequest::Entry(entry) => match given_entry(rt, alloc, entry) {
+            Ok(entry) => prove_by(alloc, &source, text, Wanted::Entry(entry.as_slice()), extra),
+            Err(fault) => Err(fault),
+        },
     }
 }
 
@@ -81,7 +88,12 @@ pub fn run_prove<H: Files<File = File> + Net<Stream = TcpStream> + Clock, W: Wri
 {
     let text = policy_text(rt, alloc, options.policy.as_str())?;
     let extra = read_extra(rt, alloc, options.extra.as_deref())?;
-    let proof = proof_for(rt, alloc, options, text.as_str(), extra)?;
-    print_text(writer, proof.as_bytes())?;
-    Ok(())
+    let proof = match proof_for(rt, alloc, options, text.as_str(), extra) {
+        Ok(proof) => proof,
+        Err(fault) => return Err(fault),
+    };
+    match print_text(writer, proof.as_bytes()) {
+        Ok(()) => Ok(()),
+        Err(fault) => Err(ProveFault::Fetch(FetchFault::Run(fault))),
+    }
 }

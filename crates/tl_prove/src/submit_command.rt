@@ -5,13 +5,13 @@ ghost use Rattle.tl_device.specs.Device.{passage};
 ghost use Rattle.tl_policy.specs.Terms.{terms_of};
 ghost use Rattle.tl_prove.specs.Inner.Proving.{LooksAt};
 ghost use Rattle.tl_prove.specs.ProveCommand.{text_of};
-ghost use Rattle.tl_prove.specs.SubmitCommand.{RunsSubmit, Submits};
+ghost use Rattle.tl_prove.specs.SubmitCommand.{ProvesTaken, RunsSubmit, Submits};
 
 use crate::entry::given_entry;
 use crate::fault::ProveFault;
 use crate::files::{policy_of, policy_text, read_extra};
 use crate::options::SubmitOptions;
-use crate::posting::post_entry;
+use crate::posting::{is_late, post_entry};
 use crate::prove_command::with_lack;
 use crate::proving::{Found, TrustedNote, open_source, prove_found};
 use std::alloc::{AllocError, Global};
@@ -61,14 +61,6 @@ fn look<S: ResourceSource>(
     Ok(checkpoint)
 }
 
-// Reports whether `limit` has passed since `start`.
-fn is_over<H: Clock>(rt: &H, start: &Instant, limit: Duration) -> bool {
-    match start.elapsed(rt) {
-        Ok(elapsed) => elapsed >= limit,
-        Err(_) => true,
-    }
-}
-
 // Returns the first checkpoint of the source that the policy trusts and that has the entry with this index, before
 // `limit` has passed since `start`.
 fn wait_for<H: Clock, S: ResourceSource>(
@@ -85,7 +77,7 @@ fn wait_for<H: Clock, S: ResourceSource>(
     for _ in 0..u64::MAX {
         match look(alloc, source, policy, index) {
             Ok(checkpoint) => return Ok(checkpoint),
-            Err(fault) if !may_pass(&fault) || is_over(rt, start, limit) => return Err(fault),
+            Err(fault) if !may_pass(&fault) || is_late(rt, start, limit) => return Err(fault),
             Err(_) => {}
         }
         sleep(rt, Duration::from_millis(PAUSE));
@@ -98,6 +90,32 @@ fn tell<E: Write>(alloc: Global, index: u64, errors: &mut Counted<E>) -> Result<
     let text = format!(in alloc; "tlog: entry {index} is taken; waiting for a checkpoint that has it\n")?;
     let _ = write_whole(errors, text.as_bytes());
     Ok(())
+}
+
+// Returns the text of a proof of an entry that the log took, with this index, once a checkpoint has it.
+fn prove_taken<H: Clock, S: ResourceSource>(
+    rt: &H,
+    alloc: Global,
+    source: &S,
+    policy: &Policy<'_, Global>,
+    entry: &[u8],
+    index: u64,
+    extra: Option<Vec<u8>>,
+    start: &Instant,
+    limit: Duration,
+) -> Result<String, ProveFault>
+    ensures { ProvesTaken (S.may_answer source.now) (S.may_lack source.now) (terms_of policy.now)
+        entry.now (option_map vec_items extra) (text_of result) }
+{
+    let checkpoint = match wait_for(rt, alloc, source, policy, index, start, limit) {
+        Ok(checkpoint) => checkpoint,
+        Err(fault) => return Err(fault),
+    };
+    let leaf = leaf_hash(Sha256Tree, entry);
+    match prove_found(alloc, source, &checkpoint, Found { index, leaf }, extra) {
+        Ok(proof) => Ok(proof),
+        Err(fault) => Err(fault),
+    }
 }
 
 // Posts an entry to the log at this address, and returns the text of a proof of it under a policy.
@@ -122,14 +140,9 @@ fn submit<H: Net<Stream = TcpStream> + Clock, E: Write>(
     }
     let source = HttpSource::new(rt, alloc, url, limit);
     let source = FullSource::new(alloc, &source);
-    let outcome = match wait_for(rt, alloc, &source, policy, index, &start, limit) {
-        Ok(checkpoint) => {
-            let leaf = leaf_hash(Sha256Tree, entry);
-            prove_found(alloc, &source, &checkpoint, Found { index, leaf }, extra)
-        }
-        Err(fault) => Err(fault),
-    };
-    match outcome {
+    match prove_taken(
+        rt, alloc, &source, policy, entry, index, extra, &start, limit,
+    ) {
         Ok(proof) => Ok(proof),
         Err(fault) => Err(with_lack(fault, source.lack())),
     }
@@ -161,16 +174,13 @@ pub fn run_submit<
     };
     let limit = Duration::from_secs(options.timeout);
     let told = is_terminal.then_some(errors);
-    let proof = submit(
-        rt,
-        alloc,
-        url,
-        &policy,
-        entry.as_slice(),
-        extra,
-        limit,
-        told,
-    )?;
-    print_text(writer, proof.as_bytes())?;
-    Ok(())
+    let entry = entry.as_slice();
+    let proof = match submit(rt, alloc, url, &policy, entry, extra, limit, told) {
+        Ok(proof) => proof,
+        Err(fault) => return Err(fault),
+    };
+    match print_text(writer, proof.as_bytes()) {
+        Ok(()) => Ok(()),
+        Err(fault) => Err(ProveFault::Fetch(FetchFault::Run(fault))),
+    }
 }

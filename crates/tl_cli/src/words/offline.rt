@@ -32,7 +32,7 @@ const PATIENCE: u64 = 60;
 
 const PROVE: Words = Words {
     name: "prove",
-    about: "Prints a proof that an entry is in a log, to be checked without it",
+    about: "Prints a proof of an entry, to be checked without the log",
     after_help: texts::PROVE,
     groups: &[
         Group {
@@ -127,7 +127,7 @@ const SUBMIT: Words = Words {
             words: words![
                 "extra" "FILE" Kind::Path => EXTRA;
                 "timeout" "N" Kind::Number(1, 86_400)
-                    => "Seconds until there is a proof (default: 60)";
+                    => "Seconds until a checkpoint has it (default: 60)";
             ],
         },
     ],

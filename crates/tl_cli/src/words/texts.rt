@@ -302,7 +302,8 @@ policy, a line of the proof wrong, signed by no log of the policy, cosigned by
 N, K wanted, the entry is another one, out of memory); 2 wrong arguments or a
 call for help; 3 a read or a write failed.
 
-Example: tlog verify --policy policy --sha256 release.tar.gz < release.tlog-proof";
+Example: tlog verify --policy policy --sha256 release.tar.gz \\
+             < release.tlog-proof";
 
 pub(super) const SUBMIT: &str =
     "Posts the entry to the log, which takes entries ('tlog serve --add'), waits
