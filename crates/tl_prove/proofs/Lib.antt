@@ -1,1 +1,4 @@
 mod Others
+mod Given
+mod VerifyRuns
+mod Making
