@@ -12,7 +12,9 @@ ghost use Rattle.tl_cli.specs.Ending.{Told, status_of};
 ghost use Rattle.tl_cli.specs.Told.{Tells};
 
 use crate::checking::check_under;
-use crate::fault::{CommandFault, after_fetch, after_prove, after_run, after_witness, command_exit_of};
+use crate::fault::{
+    CommandFault, after_fetch, after_prove, after_run, after_witness, command_exit_of,
+};
 use crate::in_bucket::{append_to, serve_from};
 use crate::job::{ConsistencyOptions, InclusionOptions, Job};
 use crate::key_files::keygen_to;

@@ -18,11 +18,7 @@ const MOST_POLICY: u64 = 65_536;
 const MOST_EXTRA: u64 = 1_048_576;
 
 /// Returns the text of the policy's file, of at most 65,536 bytes.
-pub(crate) fn policy_text<H: Files>(
-    rt: &H,
-    alloc: Global,
-    path: &str,
-) -> Result<String, ProveFault>
+pub(crate) fn policy_text<H: Files>(rt: &H, alloc: Global, path: &str) -> Result<String, ProveFault>
     ensures { IfErr result IsOfPolicy }
 {
     let bytes = match read_plain(alloc, rt, path, metadata(rt, path), MOST_POLICY) {

@@ -82,7 +82,14 @@ fn answer_of<H: Net<Stream = TcpStream> + Clock>(
     let stream = connect(rt, url, &start, limit)?;
     let mut reader = Counted::new(Timed::new(rt, &stream, start, limit));
     let mut writer = Counted::new(Timed::new(rt, &stream, start, limit));
-    match post_over(alloc, &mut reader, &mut writer, url.authority, target, entry) {
+    match post_over(
+        alloc,
+        &mut reader,
+        &mut writer,
+        url.authority,
+        target,
+        entry,
+    ) {
         Ok(reply) => Ok(reply.body),
         Err(fault) => Err(why_none(fault, is_late(rt, &start, limit))),
     }

@@ -7,7 +7,6 @@ ghost use Rattle.tl_text.specs.Text.{IsSize};
 ghost use Rattle.tl_prove.specs.Prove.{IsProofFor, Proves, RefusesLeaf, RefusesProving};
 ghost use Rattle.tl_prove.specs.Inner.Proving.{Finds, HasNone, IsNoteOf, LooksFor, LooksIn, OpensSource, ReadsCheckpoint, head_of};
 
-
 use crate::fault::ProveFault;
 use std::alloc::{AllocError, Global};
 use tl_client::{ClientFault, Head, ResourceSource, prove_entry, read_entries};

@@ -87,7 +87,9 @@ fn wait_for<H: Clock, S: ResourceSource>(
 
 // Says on a terminal that an entry was taken.
 fn tell<E: Write>(alloc: Global, index: u64, errors: &mut Counted<E>) -> Result<(), AllocError> {
-    let text = format!(in alloc; "tlog: entry {index} is taken; waiting for a checkpoint that has it\n")?;
+    let text = format!(in alloc;
+        "tlog: entry {index} is taken; waiting for a checkpoint that has it\n"
+    )?;
     let _ = write_whole(errors, text.as_bytes());
     Ok(())
 }
@@ -151,11 +153,7 @@ fn submit<H: Net<Stream = TcpStream> + Clock, E: Write>(
 /// Posts an entry to a log, waits until a checkpoint that the policy trusts has it, and prints a proof of it, which
 /// `verify` accepts under the same policy. It reads the files that the options name first. If `errors` is a terminal,
 /// it says there when the log has taken the entry.
-pub fn run_submit<
-    H: Files<File = File> + Net<Stream = TcpStream> + Clock,
-    W: Write,
-    E: Write,
->(
+pub fn run_submit<H: Files<File = File> + Net<Stream = TcpStream> + Clock, W: Write, E: Write>(
     rt: &H,
     alloc: Global,
     options: &SubmitOptions,

@@ -51,13 +51,7 @@ fn check_under<A: Allocator>(
     ensures { ChecksEntry sha256 (proof_of proof.now) (head_of checkpoint.now).size
         (head_of checkpoint.now).root leaf result }
 {
-    check_entry(
-        Sha256Tree,
-        proof,
-        checkpoint.size,
-        checkpoint.root,
-        leaf,
-    )
+    check_entry(Sha256Tree, proof, checkpoint.size, checkpoint.root, leaf)
 }
 
 // Returns what a text shows of the entry with this leaf hash.

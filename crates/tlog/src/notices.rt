@@ -28,7 +28,14 @@ fn value_of<'a>(words: &'a [String], option: &str) -> Option<&'a str> {
 // Reports whether a command with these words reads standard input to its end before it does anything.
 fn reads_all(command: &str, words: &[String]) -> bool {
     match command {
-        "head" | "build" | "append" | "inclusion" | "consistency" | "check" | "open" | "audit"
+        "head"
+        | "build"
+        | "append"
+        | "inclusion"
+        | "consistency"
+        | "check"
+        | "open"
+        | "audit"
         | "verify" => { true }
         "serve" => !has(words, "--follow") && !has(words, "--add"),
         "witness" => value_of(words, "--state").is_none(),

@@ -10,7 +10,8 @@ use std::alloc::Global;
 use tl_prove::{EntryOptions, ProveOptions, ProveRequest, SubmitOptions, VerifyOptions};
 
 // The message if not exactly one entry is given.
-const ONE_ENTRY: &str = "one of --entry, --entry-file and --sha256 is given, and --name with --sha256 alone";
+const ONE_ENTRY: &str =
+    "one of --entry, --entry-file and --sha256 is given, and --name with --sha256 alone";
 
 // The message if not exactly one entry is given, or its index.
 const ONE_WANTED: &str =
@@ -21,10 +22,15 @@ const ONE_LINE: &str = "--name is one line";
 
 // The help of these words.
 const POLICY: &str = "Which logs and witnesses are trusted (C2SP tlog-policy)";
+
 const ENTRY: &str = "The entry";
+
 const ENTRY_FILE: &str = "The file that is the entry";
+
 const SHA256: &str = "The file that the entry stands for, by its SHA-256";
+
 const NAME: &str = "With --sha256: a name in the entry";
+
 const EXTRA: &str = "The file of data to put into the proof";
 
 // The seconds until a proof, if they aren't given.
