@@ -1,1 +1,2 @@
+mod CommandRuns
 mod Others
