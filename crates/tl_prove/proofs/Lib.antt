@@ -1,3 +1,4 @@
+mod CommandRuns
 mod Others
 mod Given
 mod VerifyRuns
