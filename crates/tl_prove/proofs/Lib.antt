@@ -1,5 +1,5 @@
-mod CommandRuns
 mod Others
 mod Given
 mod VerifyRuns
 mod Making
+mod CommandRuns
