@@ -1,66 +1,31 @@
 -- How `prove` and `submit` end, by what their parts say.
-use Rattle.std.proofs.Common.{◌≡◌, ◌⊎◌, ℕ, ◌<◌, ◌≤◌, List, refl, sym, ap, subst, ◌∙◌, inl, inr, option_map, string_bytes, vec_items, Option, Some, None, Result, Ok, Err, String, OnOk, OnErr}
-use Rattle.std.specs.Global.{Global}
+use Rattle.std.proofs.Common.{◌≡◌, ℕ, refl, ap, subst, inl, inr, string_bytes, vec_items, Option, Some, None, Ok, Err}
 use Rattle.std.specs.Option.{is_some}
 use Rattle.sha2.specs.Sha256.{sha256}
 use Rattle.tl_hash.specs.Bytes.{Bytes}
 use Rattle.tl_hash.specs.Tree.{leaf_input}
 use Rattle.tl_tile.specs.declared.resource.Resource.{Resource}
-use Rattle.tl_checkpoint.specs.Checkpoint as checkpoint
 use Rattle.tl_device.specs.Device.{Passage, IsUnwritten, WrotePart, WroteWhole}
-use Rattle.tl_text.specs.Text.{IsSize}
-use Rattle.tl_offline.specs.ProofText.{TlogProof}
-use Rattle.tl_offline.specs.CheckEntry.{Accepts}
 use Rattle.tl_policy.specs.Terms.{Terms}
-use Rattle.tl_policy.specs.Trust.{IsTrusted}
 use Rattle.tl_policy.specs.ReadPolicy.{ReadsPolicy}
-use Rattle.tl_source.specs.Sources.{Origin}
 use Rattle.tl_source.specs.Url.{IsNoUrl}
-use Rattle.tl_source.specs.declared.lack.Lack.{Lack}
 use Rattle.tl_source.specs.declared.url.Url.{Url}
 use Rattle.tl_run.specs.declared.fault.RunFault.{RunFault}
 use Rattle.tl_run.specs.declared.fault.RunFault.TheVariants as run
 use Rattle.tl_fetch.specs.declared.fault.FetchFault.{FetchFault}
 use Rattle.tl_fetch.specs.declared.fault.FetchFault.TheVariants as fetch
 use Rattle.tl_fetch.specs.declared.fault.Address.TheVariants.{From}
-use Rattle.tl_fetch.specs.Command.{HasScheme, IsOriginOf}
-use Rattle.tl_fetch.specs.Inner.Naming.{told_as}
-use Rattle.tl_fetch.proofs.RunLemmas.{told_by}
+use Rattle.tl_fetch.specs.Command.{HasScheme}
 use Rattle.tl_prove.specs.Entry.{IsGiven}
-use Rattle.tl_prove.specs.Faults.{IsOfFile, IsOfPolicy, after_file, out_of_memory}
-use Rattle.tl_prove.specs.Inner.Proving.{LooksAt, OpensSource, checkpoint_of, head_of}
-use Rattle.tl_prove.specs.Policies.{FailsExtra, RefusesPolicy}
-use Rattle.tl_prove.specs.Prove.{IsOpened, IsProofFor, Proves, RefusesLeaf, RefusesProving, tree_of}
-use Rattle.tl_prove.specs.ProveCommand.{FailsWriting, HasExtra, IsBadAddress, IsRequested, IsShownAs, ProvesBy, ProvesFor, RunsProve, source_answers, text_of}
-use Rattle.tl_prove.specs.SubmitCommand.{IsProofOf, IsTooSmall, IsUrlOf, ProvesTaken, RefusesLook, RefusesOptions, RefusesTaken, RunsSubmit, Submits, SubmitsFor, host_answers}
-use Rattle.tl_prove.specs.declared.fault.NamedFile.{NamedFile}
-use Rattle.tl_prove.specs.declared.fault.NamedFile.TheVariants as file
+use Rattle.tl_prove.specs.Inner.Proving.{OpensSource, checkpoint_of, head_of}
+use Rattle.tl_prove.specs.Prove.{RefusesLeaf}
+use Rattle.tl_prove.specs.ProveCommand.{HasExtra, IsBadAddress, IsShownAs, ProvesFor, RunsProve}
+use Rattle.tl_prove.specs.SubmitCommand.{IsUrlOf, RefusesTaken, RunsSubmit, Submits, host_answers}
 use Rattle.tl_prove.specs.declared.fault.ProveFault.{ProveFault}
 use Rattle.tl_prove.specs.declared.fault.ProveFault.TheVariants as flaw
 use Rattle.tl_prove.specs.declared.options.ProveOptions.{ProveOptions}
 use Rattle.tl_prove.specs.declared.options.SubmitOptions.{SubmitOptions}
 use Rattle.tl_prove.specs.declared.proving.TrustedNote.{TrustedNote}
-use Rattle.tl_prove.specs.declared.proving.Wanted.{Wanted}
-
--- ---- faults
-
--- a fault that is shown as it is
-pub shown_same : (fault : ProveFault) → IsShownAs fault fault
-shown_same (flaw.Fetch why) = inl refl
-shown_same (flaw.File which why) = refl
-shown_same flaw.PolicyNotText = refl
-shown_same (flaw.Policy why) = refl
-shown_same (flaw.Refused why) = refl
-shown_same (flaw.Untrusted why) = refl
-shown_same flaw.NoEntry = refl
-shown_same flaw.NoExtra = refl
-shown_same (flaw.NotPosted why) = refl
-shown_same flaw.NoIndex = refl
-shown_same flaw.TooLate = refl
-
--- one that names what was lacked
-pub shown_told : (fault : ProveFault) (why told : FetchFault) (lack : Option Lack) → fault ≡ flaw.Fetch why → told ≡ told_as why lack → IsShownAs fault (flaw.Fetch told)
-shown_told fault why told lack is same = subst (λ f. IsShownAs f (flaw.Fetch told)) (sym is) (told_by why told lack same)
 
 -- ---- the options
 
@@ -76,12 +41,6 @@ pub bad_address : (from text : Bytes) (why : FetchFault) → text ≡ from → (
 bad_address from text why same bad = (ap flaw.Fetch bad.0, subst HasScheme same bad.1, subst IsNoUrl same bad.2)
 
 -- ---- `prove`
-
--- a proof over the source of an origin
-pub proof_from : (options : ProveOptions) (policy : Bytes) (extra : Option Bytes) (origin : Origin) (asked : Wanted) (outcome : Result (String Global) ProveFault) → IsOriginOf (string_bytes options.from) origin
-    → IsRequested options.wanted asked → ProvesBy (source_answers origin) (λ r. Unit {0}) policy asked extra (text_of outcome) → ProvesFor options policy extra (text_of outcome)
-proof_from options policy extra origin asked (Ok text) at is by = (origin, at, (asked, is, by))
-proof_from options policy extra origin asked (Err fault) at is by = inr (inr (origin, at, (asked, is, by)))
 
 -- the end of a run of `prove`
 module _ (options : ProveOptions) (policy : Bytes) (extra : Option Bytes) (o : Passage) (has : HasExtra options.extra extra) where
@@ -121,6 +80,10 @@ by_host at url p entry extra fault shown is refused told =
 -- the address of the options
 pub url_of : (to text : Bytes) (url : Url) → text ≡ to → IsUrlOf text url → IsUrlOf to url
 url_of to text url same is = subst (λ (t : Bytes). IsUrlOf t url) same is
+
+-- an address that is none
+pub bad_url : (options : SubmitOptions) (text : Bytes) (o : Passage) → text ≡ string_bytes options.to → IsNoUrl text → IsUnwritten o → RunsSubmit options o (Err (flaw.Fetch (fetch.BadAddress From)))
+bad_url options text o same wrong none = inl (inr (inr (inr (inr (refl, subst IsNoUrl same wrong)))), none)
 
 -- the end of a run of `submit`
 module _ (options : SubmitOptions) (policy entry : Bytes) (extra : Option Bytes) (p : Terms) (url : Url) (o : Passage) (read : ReadsPolicy policy (Ok p)) (given : IsGiven options.entry entry) (has : HasExtra options.extra extra) (at : IsUrlOf (string_bytes options.to) url) where

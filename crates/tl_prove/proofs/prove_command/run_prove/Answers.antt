@@ -16,12 +16,12 @@ pub returns-in-Ok-print_text : goal.returns-in-Ok-print_text
 returns-in-Ok-print_text g c =
     let options = c.args.options.now in
     let extra = option_map vec_items c.in_ok-extra.extra in
-    wrote_proof options c.as_str-2.result.now extra _ (extra_of c.as_deref.result options.extra extra c.as_deref.ensures.variant c.in_ok-extra.ensures.extra)
-    (string_bytes c.in-Ok.proof) c.as_bytes.result.now c.as_bytes.ensures.value c.in-Ok.ensures c.in-Ok-print_text.ensures.whole
+    wrote_proof options c.as_str-2.result.now extra (passage g.W.Write.contents c.args.writer.now c.print_text.new.writer)
+    (extra_of c.as_deref.result options.extra extra c.as_deref.ensures.variant c.in_ok-extra.ensures.extra) (string_bytes c.in-Ok.proof) c.as_bytes.result.now c.as_bytes.ensures.value c.in-Ok.ensures c.in-Ok-print_text.ensures.whole
 
 pub returns : goal.returns
 returns g c =
     let options = c.args.options.now in
     let extra = option_map vec_items c.in_ok-extra.extra in
-    broke_proof options c.as_str-2.result.now extra _ (extra_of c.as_deref.result options.extra extra c.as_deref.ensures.variant c.in_ok-extra.ensures.extra)
-    (string_bytes c.in-Ok.proof) c.as_bytes.result.now c.in-Err-print_text.fault c.as_bytes.ensures.value c.in-Ok.ensures c.in-Err-print_text.ensures.fault c.in-Err-print_text.ensures.part
+    broke_proof options c.as_str-2.result.now extra (passage g.W.Write.contents c.args.writer.now c.print_text.new.writer)
+    (extra_of c.as_deref.result options.extra extra c.as_deref.ensures.variant c.in_ok-extra.ensures.extra) (string_bytes c.in-Ok.proof) c.as_bytes.result.now c.in-Err-print_text.fault c.as_bytes.ensures.value c.in-Ok.ensures c.in-Err-print_text.ensures.fault c.in-Err-print_text.ensures.part
