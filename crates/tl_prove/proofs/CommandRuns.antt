@@ -62,14 +62,17 @@ pub not_taken : (answers : Resource → Bytes → Type 0) (lacks : Resource → 
     → OpensSource answers lacks p (Ok t) → leaf ≡ sha256 (leaf_input entry)
     → RefusesLeaf answers lacks (head_of t) index leaf fault
     → RefusesTaken answers lacks p entry fault
-not_taken answers lacks p t entry index leaf fault opened is refused = (index, inr (record {
-  note = string_bytes t.note;
-  c = checkpoint_of t;
-  log = t.trusted.log;
-  times = vec_items t.trusted.times;
-  opened = opened;
-  refused = subst (λ (l : Bytes). RefusesLeaf answers lacks (head_of t) index l fault) is refused;
-}))
+not_taken answers lacks p t entry index leaf fault opened is refused = (
+  index,
+  inr (record {
+    note = string_bytes t.note;
+    c = checkpoint_of t;
+    log = t.trusted.log;
+    times = vec_items t.trusted.times;
+    opened = opened;
+    refused = subst (λ (l : Bytes). RefusesLeaf answers lacks (head_of t) index l fault) is refused;
+  }),
+)
 
 -- what a host gave, by the address that the source has
 pub by_host : (at url : Url) (p : Terms) (entry : Bytes) (extra : Option Bytes) (fault shown : ProveFault) → at ≡ url → RefusesTaken (host_answers at) (λ r. Unit {0}) p entry fault → IsShownAs fault shown
