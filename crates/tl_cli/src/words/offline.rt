@@ -144,15 +144,11 @@ pub(super) fn submit() -> &'static Words {
     &SUBMIT
 }
 
-// Returns how many of these words are given.
-fn count_of(options: &ArgMatches<'_>, names: &[&str]) -> usize {
-    names.iter().filter(|name| is_given(options, name)).count()
-}
-
 // Returns the message if the words of an entry don't go together; `has_index` says that one may be given instead.
 fn entry_refusal(options: &ArgMatches<'_>, has_index: bool) -> Option<&'static str> {
-    let index = (has_index && options.get_one::<u64>("index").is_some()) as usize;
-    let entries = count_of(options, &["entry", "entry-file", "sha256"]) + index;
+    let has = |name| is_given(options, name) as usize;
+    let index = has_index && options.get_one::<u64>("index").is_some();
+    let entries = has("entry") + has("entry-file") + has("sha256") + index as usize;
     if entries != 1 || (is_given(options, "name") && !is_given(options, "sha256")) {
         return Some(if has_index { ONE_WANTED } else { ONE_ENTRY });
     }
