@@ -56,3 +56,17 @@ returns-in-Open g c = rw c.in-Open.is (
   ),
   search rules,
 )
+
+pub returns-in-Verify : goal.returns-in-Verify
+returns-in-Verify g c = rw c.in-Verify.is ((c.run_verify.result, c.run_verify.ensures, c.after_prove.ensures), (Keeps-refl (g.E.Write.contents c.args.errors.now.device), refl))
+
+pub returns-in-Prove : goal.returns-in-Prove
+returns-in-Prove g c = rw c.in-Prove.is (
+  (c.run_prove.result, c.run_prove.ensures, c.after_prove-in-Prove.ensures),
+  (Keeps-refl (g.R.Read.remaining c.args.reader.now.device), refl),
+  (Keeps-refl (g.E.Write.contents c.args.errors.now.device), refl),
+)
+
+pub returns-in-Submit : goal.returns-in-Submit
+returns-in-Submit g c = rw c.in-Submit.is
+    ((c.run_submit.result, c.run_submit.ensures, c.after_prove-in-Submit.ensures), (Keeps-refl (g.R.Read.remaining c.args.reader.now.device), refl))
