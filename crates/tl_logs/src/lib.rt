@@ -26,11 +26,13 @@
 #![tactic(auto)]
 
 mod by_origin;
+mod entry;
 mod fault;
 mod head;
 mod known;
 mod law;
 mod line;
+mod listing;
 mod log;
 mod one_line;
 mod placing;

@@ -3,6 +3,7 @@
 ghost use Rattle.std.specs.Prelude.{◌≡◌, ◌↔◌, IsTrue};
 ghost use Rattle.tl_logs.specs.LogsFile.{IsPassedOver};
 ghost use Rattle.tl_logs.specs.Inner.Lines.{ReadsAlone, ReadsBehind, ReadsLine, ReadsNamed, ReadsText};
+ghost use Rattle.tl_logs.specs.Inner.Listing.{ReadsUnder};
 
 use std::alloc::{AllocError, AllocFailed, Allocator};
 use std::str;
@@ -67,8 +68,8 @@ fn read_key<A: Allocator + Send + Sync>(alloc: A, text: &str) -> Result<NoteVeri
     }
 }
 
-// Parses a verifier key, whose name is the log's.
-fn key_alone<A: Allocator + Copy + Send + Sync>(
+/// Parses a verifier key, whose name is the log's.
+pub(crate) fn key_alone<A: Allocator + Copy + Send + Sync>(
     alloc: A,
     text: &str,
 ) -> Result<KeyLine<A>, LineFault>
@@ -84,20 +85,18 @@ fn key_alone<A: Allocator + Copy + Send + Sync>(
     Ok(KeyLine { origin, key })
 }
 
-// Parses a log's name, a space and a verifier key.
-fn key_behind<A: Allocator + Copy + Send + Sync>(
+/// Parses a verifier key, given to the log with this name.
+pub(crate) fn key_under<A: Allocator + Copy + Send + Sync>(
     alloc: A,
+    name: &str,
     text: &str,
 ) -> Result<KeyLine<A>, LineFault>
-    ensures { ReadsBehind text.now result }
+    ensures { ReadsUnder name.now text.now result }
 {
-    let Some((name, key)) = text.split_once(' ') else {
-        return Err(LineFault::Malformed);
-    };
     if !is_key_name(name) {
         return Err(LineFault::Malformed);
     }
-    let key = match read_key(alloc, key) {
+    let key = match read_key(alloc, text) {
         Ok(key) => key,
         Err(fault) => return Err(fault),
     };
@@ -105,6 +104,19 @@ fn key_behind<A: Allocator + Copy + Send + Sync>(
         return Err(LineFault::OutOfMemory);
     };
     Ok(KeyLine { origin, key })
+}
+
+// Parses a log's name, a space and a verifier key.
+fn key_behind<A: Allocator + Copy + Send + Sync>(
+    alloc: A,
+    text: &str,
+) -> Result<KeyLine<A>, LineFault>
+    ensures { ReadsBehind text.now result }
+{
+    match text.split_once(' ') {
+        Some((name, key)) => key_under(alloc, name, key),
+        None => Err(LineFault::Malformed),
+    }
 }
 
 // Parses a line that gives a key, in either form.

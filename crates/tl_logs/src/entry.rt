@@ -1,0 +1,74 @@
+//! The logs of a list, as its lines say them.
+
+ghost use Rattle.std.specs.Prelude.{◌≡◌, ◌==◌, position};
+ghost use Rattle.tl_logs.specs.LogList.{behind_word, ended, first_word, named, opened};
+ghost use Rattle.tl_logs.specs.Inner.Listing.{entry_in, entry_of};
+
+/// A log as a list says it: the number of the line that begins it, its key, and its name if a line gives it one.
+#[derive(Clone, Copy)]
+pub(crate) struct ListEntry<'a> {
+    pub(crate) line: u64,
+    pub(crate) key: &'a [u8],
+    pub(crate) name: Option<&'a [u8]>,
+}
+
+// Returns the position of the first space.
+fn first_space(bytes: &[u8]) -> Option<usize>
+    ensures { result ≡ position (λ byte. byte == 32) bytes.now }
+{
+    bytes.iter().position(|byte| *byte == b' ')
+}
+
+// Returns the first word of a line, which ends at the first space, and what follows it.
+fn cut_word(words: &[u8]) -> (&[u8], &[u8])
+    ensures word { result.0.now ≡ first_word words.now }
+    ensures behind { result.1.now ≡ behind_word words.now }
+{
+    match first_space(words) {
+        Some(end) => (&words[..end], &words[end + 1..]),
+        None => (words, &words[words.len()..]),
+    }
+}
+
+// Gives the log that waits its name. Where none does, the name begins a log without a key.
+fn name_entry<'a>(waiting: Option<ListEntry<'a>>, line: u64, name: &'a [u8]) -> ListEntry<'a>
+    ensures { entry_of result ≡ named (entry_in waiting.entry) line name.now }
+{
+    match waiting {
+        Some(entry) => ListEntry {
+            line: entry.line,
+            key: entry.key,
+            name: Some(name),
+        },
+        None => ListEntry {
+            line,
+            key: &[],
+            name: Some(name),
+        },
+    }
+}
+
+/// Returns the log that ends with this line, and the log that waits for a name after it, if there is one. `waiting` is
+/// the one that waits before it.
+pub(crate) fn add_line<'a>(
+    waiting: Option<ListEntry<'a>>,
+    line: u64,
+    words: &'a [u8],
+) -> (Option<ListEntry<'a>>, Option<ListEntry<'a>>)
+    ensures ends { entry_in result.0 ≡ ended (entry_in waiting.entry) line words.now }
+    ensures opens { entry_in result.1 ≡ opened (entry_in waiting.entry) line words.now }
+{
+    let (word, rest) = cut_word(words);
+    if word == b"vkey".as_slice() {
+        let begun = ListEntry {
+            line,
+            key: rest,
+            name: None,
+        };
+        return (waiting, Some(begun));
+    }
+    if word == b"origin".as_slice() {
+        return (Some(name_entry(waiting, line, rest)), None);
+    }
+    (None, waiting)
+}
