@@ -1,16 +1,15 @@
 -- Reading a list of logs, one line after the other.
-use Rattle.std.proofs.Common.{◌≡◌, ◌≢◌, ℕ, ◌+◌, ◌<◌, Bool, true, false, List, [], ◌∷◌, ◌++◌, length, map, get_or, refl, sym, ap, subst, ◌∙◌, append_assoc, append-nil, arith, All, Option, Some, None, Result, Ok, Err, inl, inr}
+use Rattle.std.proofs.Common.{◌≡◌, ◌≢◌, ℕ, ◌+◌, true, false, List, [], ◌∷◌, ◌++◌, length, refl, sym, ap, subst, ◌∙◌, append_assoc, append-nil, arith, All, Option, Some, None, Ok, Err, inl, inr}
 use Rattle.std.specs.Prelude.{◌==◌, ◌↔◌, IsTrue, bytes_eq, nat_eq}
 use Rattle.std.specs.Option.{option_to_list}
-use Rattle.std.specs.List.{slice_split}
 use Rattle.std.proofs.lemmas.Bool.{eqb-true, ne_eqb}
 use Rattle.std.proofs.lemmas.List.{map-append}
 use Rattle.std.proofs.lemmas.List.Elements.{All-nil, All-push, All-weaker}
 use Rattle.std.proofs.lemmas.List.Splits.{slice_split_at, slice_split_none}
 use Rattle.std.proofs.lemmas.Slice.Eq.{bytes_eq-Decides}
-use Rattle.tl_logs.specs.LogsFile.{HasEachOnce, IsInOneLine, Log, LogKey, logs}
-use Rattle.tl_logs.specs.LogList.{Entry, IsLog, IsListed, Listed, ended, entries, entries_from, entries_in, given_in, lines_of, opened}
-use Rattle.tl_logs.specs.ReadLogs.{AreListed, Begins, IsNextLog, ReadsList}
+use Rattle.tl_logs.specs.LogsFile.{HasEachOnce, IsInOneLine, Log, logs}
+use Rattle.tl_logs.specs.LogList.{Entry, IsListed, Listed, ended, entries, entries_from, entries_in, given_in, lines_of, opened}
+use Rattle.tl_logs.specs.ReadLogs.{AreListed, Begins, ReadsList}
 use Rattle.tl_logs.specs.declared.fault.LogsFault.{LogsFault}
 use Rattle.tl_logs.specs.declared.fault.LogsFault.TheVariants as why
 use Rattle.tl_logs.specs.Inner.Lines.{CutsLine}

@@ -1,5 +1,5 @@
 -- A list of logs, which the file of logs may be (`logs/v0`, the form of the public lists of logs).
-use Rattle.std.specs.Prelude.{◌≡◌, ◌≢◌, ℕ, ◌+◌, ◌==◌, Bool, if◌then◌else◌, List, [], ◌∷◌, ◌++◌, map, Option, Some, None, IsUtf8, bytes_eq, codes}
+use Rattle.std.specs.Prelude.{◌≡◌, ℕ, ◌+◌, ◌==◌, Bool, if◌then◌else◌, List, [], ◌∷◌, ◌++◌, map, Option, Some, None, IsUtf8, bytes_eq, codes}
 use Rattle.std.specs.List.{after_first, before_first, slice_split}
 use Rattle.std.specs.Option.{option_to_list}
 use Rattle.tl_hash.specs.Bytes.{Bytes}

@@ -1,4 +1,4 @@
-use Rattle.std.proofs.Common.{◌≡◌, true, false, refl}
+use Rattle.std.proofs.Common.{refl}
 use Rattle.tl_logs.proofs.LineLaws.{under_refused}
 use Rattle.tl_logs.proofs.line.key_under.Goals as goal
 
