@@ -1,8 +1,10 @@
 //! The logs of a list, as its lines say them.
 
-ghost use Rattle.std.specs.Prelude.{◌≡◌, ◌==◌, position};
-ghost use Rattle.tl_logs.specs.LogList.{behind_word, ended, first_word, named, opened};
+ghost use Rattle.std.specs.Prelude.{◌≡◌};
+ghost use Rattle.tl_logs.specs.LogList.{ended, named, opened};
 ghost use Rattle.tl_logs.specs.Inner.Listing.{entry_in, entry_of};
+
+use crate::reading::cut_at;
 
 /// A log as a list says it: the number of the line that begins it, its key, and its name if a line gives it one.
 #[derive(Clone, Copy)]
@@ -10,24 +12,6 @@ pub(crate) struct ListEntry<'a> {
     pub(crate) line: u64,
     pub(crate) key: &'a [u8],
     pub(crate) name: Option<&'a [u8]>,
-}
-
-// Returns the position of the first space.
-fn first_space(bytes: &[u8]) -> Option<usize>
-    ensures { result ≡ position (λ byte. byte == 32) bytes.now }
-{
-    bytes.iter().position(|byte| *byte == b' ')
-}
-
-// Returns the first word of a line, which ends at the first space, and what follows it.
-fn cut_word(words: &[u8]) -> (&[u8], &[u8])
-    ensures word { result.0.now ≡ first_word words.now }
-    ensures behind { result.1.now ≡ behind_word words.now }
-{
-    match first_space(words) {
-        Some(end) => (&words[..end], &words[end + 1..]),
-        None => (words, &words[words.len()..]),
-    }
 }
 
 // Gives the log that waits its name. Where none does, the name begins a log without a key.
@@ -58,7 +42,7 @@ pub(crate) fn add_line<'a>(
     ensures ends { entry_in result.0 ≡ ended (entry_in waiting.entry) line words.now }
     ensures opens { entry_in result.1 ≡ opened (entry_in waiting.entry) line words.now }
 {
-    let (word, rest) = cut_word(words);
+    let (word, rest) = cut_at(words, b' ');
     if word == b"vkey".as_slice() {
         let begun = ListEntry {
             line,

@@ -1,6 +1,7 @@
 //! Reading the file of logs.
 
 ghost use Rattle.std.specs.Prelude.{◌≡◌, ◌==◌, ◌↔◌, IsTrue, position};
+ghost use Rattle.std.specs.List.{after_first, before_first};
 ghost use Rattle.tl_logs.specs.LogList.{IsList};
 ghost use Rattle.tl_logs.specs.ReadLogs.{ReadsLines, ReadsLogs};
 ghost use Rattle.tl_logs.specs.Inner.Lines.{CutsLine};
@@ -14,21 +15,36 @@ use crate::log::KnownLog;
 use crate::placing::take_line;
 use std::alloc::Allocator;
 
+// Returns the position of the first byte of this value.
+fn first_byte(bytes: &[u8], value: u8) -> Option<usize>
+    ensures { result ≡ position (λ byte. byte == value) bytes.now }
+{
+    bytes.iter().position(|byte| *byte == value)
+}
+
 /// Returns the position of the first newline.
 pub(crate) fn first_newline(bytes: &[u8]) -> Option<usize>
     ensures { result ≡ position (λ byte. byte == 10) bytes.now }
 {
-    bytes.iter().position(|byte| *byte == b'\n')
+    first_byte(bytes, b'\n')
+}
+
+/// Returns what stands before the first byte of this value, and what follows it. Without such a byte all stands before.
+pub(crate) fn cut_at(bytes: &[u8], value: u8) -> (&[u8], &[u8])
+    ensures before { result.0.now ≡ before_first (λ byte. byte == value) bytes.now }
+    ensures behind { result.1.now ≡ after_first (λ byte. byte == value) bytes.now }
+{
+    match first_byte(bytes, value) {
+        Some(end) => (&bytes[..end], &bytes[end + 1..]),
+        None => (bytes, &bytes[bytes.len()..]),
+    }
 }
 
 /// Returns the first line, without its newline, and what follows it.
 pub(crate) fn cut_line(bytes: &[u8]) -> (&[u8], &[u8])
     ensures { CutsLine bytes.now result.0.now result.1.now }
 {
-    match first_newline(bytes) {
-        Some(end) => (&bytes[..end], &bytes[end + 1..]),
-        None => (bytes, &bytes[bytes.len()..]),
-    }
+    cut_at(bytes, b'\n')
 }
 
 /// Converts the fault of the line with this number.
