@@ -32,27 +32,26 @@ fn name_entry<'a>(waiting: Option<ListEntry<'a>>, line: u64, name: &'a [u8]) -> 
     }
 }
 
-/// Returns the log that ends with this line, and the log that waits for a name after it, if there is one. `waiting` is
-/// the one that waits before it.
+/// Returns the log that ends with this line, if one does, and leaves in `waiting` the log that waits for a name after
+/// it, if one does.
 pub(crate) fn add_line<'a>(
-    waiting: Option<ListEntry<'a>>,
+    waiting: &mut Option<ListEntry<'a>>,
     line: u64,
     words: &'a [u8],
-) -> (Option<ListEntry<'a>>, Option<ListEntry<'a>>)
-    ensures ends { entry_in result.0 ≡ ended (entry_in waiting.entry) line words.now }
-    ensures opens { entry_in result.1 ≡ opened (entry_in waiting.entry) line words.now }
+) -> Option<ListEntry<'a>>
+    ensures ends { entry_in result ≡ ended (entry_in waiting.old) line words.now }
+    ensures opens { entry_in waiting.new ≡ opened (entry_in waiting.old) line words.now }
 {
     let (word, rest) = cut_at(words, b' ');
     if word == b"vkey".as_slice() {
-        let begun = ListEntry {
+        return waiting.replace(ListEntry {
             line,
             key: rest,
             name: None,
-        };
-        return (waiting, Some(begun));
+        });
     }
     if word == b"origin".as_slice() {
-        return (Some(name_entry(waiting, line, rest)), None);
+        return Some(name_entry(waiting.take(), line, rest));
     }
-    (None, waiting)
+    None
 }

@@ -77,12 +77,11 @@ pub(crate) fn read_list<A: Allocator + Copy + Send + Sync>(
     while !left.is_empty() {
         let (words, rest) = cut_line(left);
         line += 1;
-        let (ended, opened) = add_line(waiting, line, words);
+        let ended = add_line(&mut waiting, line, words);
         match take_entry(alloc, &mut logs, &mut index, ended) {
             Ok(()) => {}
             Err(fault) => return Err(fault),
         }
-        waiting = opened;
         left = rest;
     }
     match take_entry(alloc, &mut logs, &mut index, waiting) {

@@ -16,18 +16,18 @@ loop-left-init g c = rw c.new-logs.ensures.items (record {
 
 pub returns-in-Err : goal.returns-in-Err
 returns-in-Err g c =
-    took_refused g.row.A.Denot c.args.bytes.now (logs_shown c.loop-left.logs.items) (logs_shown c.take_entry.new.logs.items) (entry_in c.add_line.result.0) _ c.in-Err.fault
-    (took_line c.args.bytes.now (logs_shown c.loop-left.logs.items) (entry_in c.loop-left.waiting) (entry_in c.add_line.result.0) (entry_in c.add_line.result.1) (c.loop-left.line + 1)
-    c.loop-left.left.now c.cut_line.result.0.now c.cut_line.result.1.now c.loop-left.invariant.taken c.cut_line.ensures c.add_line.ensures.ends c.add_line.ensures.opens) c.in-Err.ensures.taken
+    took_refused g.row.A.Denot c.args.bytes.now (logs_shown c.loop-left.logs.items) (logs_shown c.take_entry.new.logs.items) (entry_in c.add_line-ended.result) _ c.in-Err.fault
+    (took_line c.args.bytes.now (logs_shown c.loop-left.logs.items) (entry_in c.loop-left.waiting) (entry_in c.add_line-ended.result) (entry_in c.add_line-ended.new.waiting) (c.loop-left.line + 1)
+    c.loop-left.left.now c.cut_line.result.0.now c.cut_line.result.1.now c.loop-left.invariant.taken c.cut_line.ensures c.add_line-ended.ensures.ends c.add_line-ended.ensures.opens) c.in-Err.ensures.taken
 
 pub loop-left-smaller : goal.loop-left-smaller
 loop-left-smaller g c = omega (arith, shorter c.loop-left.left.now c.cut_line.result.0.now c.cut_line.result.1.now c.loop-left-test.ensures c.cut_line.ensures)
 
 pub loop-left-preserved : goal.loop-left-preserved
 loop-left-preserved g c = record {
-  taken = took_more c.args.bytes.now (logs_shown c.loop-left.logs.items) (logs_shown c.take_entry.new.logs.items) (entry_in c.add_line.result.0) _
-      (took_line c.args.bytes.now (logs_shown c.loop-left.logs.items) (entry_in c.loop-left.waiting) (entry_in c.add_line.result.0) (entry_in c.add_line.result.1) (c.loop-left.line + 1)
-      c.loop-left.left.now c.cut_line.result.0.now c.cut_line.result.1.now c.loop-left.invariant.taken c.cut_line.ensures c.add_line.ensures.ends c.add_line.ensures.opens) c.in-Ok.ensures.taken;
+  taken = took_more c.args.bytes.now (logs_shown c.loop-left.logs.items) (logs_shown c.take_entry.new.logs.items) (entry_in c.add_line-ended.result) _
+      (took_line c.args.bytes.now (logs_shown c.loop-left.logs.items) (entry_in c.loop-left.waiting) (entry_in c.add_line-ended.result) (entry_in c.add_line-ended.new.waiting) (c.loop-left.line + 1)
+      c.loop-left.left.now c.cut_line.result.0.now c.cut_line.result.1.now c.loop-left.invariant.taken c.cut_line.ensures c.add_line-ended.ensures.ends c.add_line-ended.ensures.opens) c.in-Ok.ensures.taken;
   few = omega (arith, c.loop-left.invariant.few, shorter c.loop-left.left.now c.cut_line.result.0.now c.cut_line.result.1.now c.loop-left-test.ensures c.cut_line.ensures);
   indexed = c.in-Ok.ensures.indexed;
 }
