@@ -3,12 +3,16 @@
 ghost use Rattle.std.specs.Prelude.{◌≡◌};
 
 use std::io;
-use std::io::{Read, Write};
+use std::io::{ErrorKind, Read, Write};
 use std::marker::Model;
 use std::net::TcpStream;
 use std::time::{Clock, Duration, Instant};
 
-/// A connection with a limit on the time that it takes in all. A read or a write fails once no time is left.
+// The most times that a call is made again, if the system ends it before its time is over.
+const MOST_TRIES: u32 = 1_000;
+
+/// A connection with a limit on the time that it takes in all. A read or a write fails once no time is left. If the
+/// system ends one earlier for want of bytes or room, as a machine whose clock ticks late does, it is made again.
 /// Contracts see the limit.
 #[derive(Drop)]
 pub struct Timed<'s, H: Clock> {
@@ -45,19 +49,39 @@ impl<'s, H: Clock> Timed<'s, H> {
     }
 }
 
+// Reports whether a call ended since it waited as long as the system was asked to.
+fn has_waited(error: &io::Error) -> bool {
+    match error.kind() {
+        ErrorKind::WouldBlock | ErrorKind::TimedOut => true,
+        _ => false,
+    }
+}
+
 impl<H: Clock> Read for Timed<'_, H> {
     fn read(&mut self, buf: &mut [u8]) -> io::Result<usize> {
-        self.stream.set_read_timeout(Some(self.left()?))?;
         let mut stream = self.stream;
-        stream.read(buf)
+        for _ in 0..MOST_TRIES {
+            self.stream.set_read_timeout(Some(self.left()?))?;
+            match stream.read(buf) {
+                Err(error) if has_waited(&error) => {}
+                result => return result,
+            }
+        }
+        Err(io::Error::from(ErrorKind::TimedOut))
     }
 }
 
 impl<H: Clock> Write for Timed<'_, H> {
     fn write(&mut self, buf: &[u8]) -> io::Result<usize> {
-        self.stream.set_write_timeout(Some(self.left()?))?;
         let mut stream = self.stream;
-        stream.write(buf)
+        for _ in 0..MOST_TRIES {
+            self.stream.set_write_timeout(Some(self.left()?))?;
+            match stream.write(buf) {
+                Err(error) if has_waited(&error) => {}
+                result => return result,
+            }
+        }
+        Err(io::Error::from(ErrorKind::TimedOut))
     }
 
     fn flush(&mut self) -> io::Result<()> {
