@@ -7,7 +7,7 @@ use Rattle.std.proofs.lemmas.List.Concat.{flat_map-cons, flat_map-append}
 use Rattle.std.proofs.lemmas.List.Elements.{All-nil, All-push}
 use Rattle.tl_text.specs.Text.{line}
 use Rattle.tl_logs.specs.LogsFile.{FileLine, GivesKey, HasEachOnce, IsFileLine, IsPassedOver, Log, LogKey, StandsBehind, file_text, keys_in, logs}
-use Rattle.tl_logs.specs.ReadLogs.{AreLogsOf, IsNext, ReadsLogs}
+use Rattle.tl_logs.specs.ReadLogs.{AreLogsOf, IsNext, ReadsLines}
 use Rattle.tl_logs.specs.declared.line.LineFault.{LineFault}
 use Rattle.tl_logs.specs.declared.line.LineFault.TheVariants.{Malformed, Twice, OutOfMemory}
 use Rattle.tl_logs.specs.Inner.Lines.{CutsLine}
@@ -156,7 +156,7 @@ next bytes known count left words rest read some cut = record {
 }
 
 pub refused : (A : Type 0) (bytes : List ℕ) (known now : List Log) (count : ℕ) (left words rest : List ℕ) (fault : LineFault) → HasRead bytes known count left
-    → false ≡ nat_eq (length left) 0 → CutsLine left words rest → TakesLine words known now (Err fault) → ReadsLogs {A = A} bytes (Err (fault_at fault (count + 1)))
+    → false ≡ nat_eq (length left) 0 → CutsLine left words rest → TakesLine words known now (Err fault) → ReadsLines {A = A} bytes (Err (fault_at fault (count + 1)))
 refused A bytes known now count left words rest Malformed read some cut none = record {
   before = read.lines;
   words = words;

@@ -5,6 +5,7 @@ pub mod IndexLaws
 pub mod Grouping
 pub mod Placed
 pub mod FileLaws
+pub mod ListingLaws
 pub mod HeadLaws
 pub mod StreamLaws
 pub mod HeadIndex

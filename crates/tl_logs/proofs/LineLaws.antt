@@ -1,5 +1,5 @@
 -- Laws of one line.
-use Rattle.std.proofs.Common.{◌≡◌, ◌≢◌, ℕ, List, refl, sym, subst, arith, Option, Some, Bor, Result, Ok, Err, inl, inr}
+use Rattle.std.proofs.Common.{◌≡◌, ◌≢◌, ℕ, List, ◌∷◌, ◌++◌, refl, sym, ap, ◌∙◌, subst, arith, Option, Some, Bor, Result, Ok, Err, inl, inr}
 use Rattle.std.specs.Prelude.{MatchOption, IsUtf8}
 use Rattle.std.proofs.lemmas.List.Elements.{All-get_or}
 use Rattle.std.proofs.lemmas.Str.Pattern.{IsSplitOnceResult, split_after, split_parts}
@@ -11,7 +11,8 @@ use Rattle.tl_logs.specs.LogsFile.{IsPassedOver, LogKey}
 use Rattle.tl_logs.specs.declared.line.KeyLine.{KeyLine}
 use Rattle.tl_logs.specs.declared.line.LineFault.{LineFault}
 use Rattle.tl_logs.specs.declared.line.LineFault.TheVariants.{Malformed, Twice, OutOfMemory}
-use Rattle.tl_logs.specs.Inner.Lines.{IsAlone, IsBehind, ReadsAlone, ReadsBehind, ReadsLine, ReadsNamed, ReadsText}
+use Rattle.tl_logs.specs.Inner.Lines.{IsAlone, IsBehind, ReadsAlone, ReadsBehind, ReadsLine, ReadsNamed, ReadsText, given_by}
+use Rattle.tl_logs.specs.Inner.Listing.{IsUnder, ReadsUnder}
 
 -- a key alone isn't read
 pub alone_refused : (A : Type 0) (text : List ℕ) (fault : LineFault) → ReadsText text (Err fault) → ReadsAlone {A = A} text (Err fault)
@@ -25,15 +26,26 @@ pub name_parts : (text : List ℕ) (r : Option (Bor (List ℕ) × Bor (List ℕ)
 name_parts text r k (key, lawful, is, e) split =
     split_after 32 text k.origin key r split (omega arith) e (λ i lt. All-get_or IsNoSpace k.origin i 0 lt (name_no_space k.origin lawful))
 
--- a key after a name isn't read
-pub behind_refused : (A : Type 0) (text : List ℕ) (name key : Bor (List ℕ)) (fault : LineFault) → IsSplitOnceResult 32 text (Some (name, key)) → IsKeyName name.now
-    → ReadsText key.now (Err fault) → ReadsBehind {A = A} text (Err fault)
-behind_refused A text name key Malformed split named none = λ k is.
+-- a key of a log with a name isn't read
+pub under_refused : (A : Type 0) (name text : List ℕ) (fault : LineFault) → ReadsText text (Err fault) → ReadsUnder {A = A} name text (Err fault)
+under_refused A name text Malformed none = λ k is. none k.key is.0
+under_refused A name text Twice none = none
+under_refused A name text OutOfMemory (k, is) = (record { origin = name; key = k }, (is, refl))
+
+-- a key after a name is one of the log with that name
+under_behind : (text : List ℕ) (name key : Bor (List ℕ)) (k : LogKey) → IsSplitOnceResult 32 text (Some (name, key)) → IsKeyName name.now → IsUnder name.now key.now k → IsBehind text k
+under_behind text name key k split lawful (is, same) =
+    let parts = split_parts 32 text (Some (name, key)) split (omega arith) in
+    (key.now, subst IsKeyName (sym same) lawful, is, parts.0 ∙ ap (λ (o : List ℕ). o ++ 32 ∷ key.now) (sym same))
+
+pub behind : (A : Type 0) (text : List ℕ) (name key : Bor (List ℕ)) (r : Result (KeyLine A) LineFault) → IsSplitOnceResult 32 text (Some (name, key)) → IsKeyName name.now
+    → ReadsUnder {A = A} name.now key.now r → ReadsBehind {A = A} text r
+behind A text name key (Ok l) split lawful is = under_behind text name key (given_by l) split lawful is
+behind A text name key (Err Malformed) split lawful none = λ k is.
     let parts = name_parts text (Some (name, key)) k is split in
-    none k.key (subst (λ (t : List ℕ). IsVerifierText note_kind t k.key) (sym parts.1) is.2)
-behind_refused A text name key Twice split named none = none
-behind_refused A text name key OutOfMemory split named (k, is) =
-    (record { origin = name.now; key = k }, (key.now, named, is, (split_parts 32 text (Some (name, key)) split (omega arith)).0))
+    none k (subst (λ (t : List ℕ). IsVerifierText note_kind t k.key) (sym parts.1) is.2, sym parts.0)
+behind A text name key (Err Twice) split lawful none = none
+behind A text name key (Err OutOfMemory) split lawful (k, is) = (k, under_behind text name key k split lawful is)
 
 -- a text names no key, neither alone nor after a name
 pub named_refused : (A : Type 0) (words : List ℕ) (fault : LineFault) → ((k : LogKey) → ¬ (IsAlone words k)) → ReadsBehind {A = A} words (Err fault) → ReadsNamed {A = A} words (Err fault)

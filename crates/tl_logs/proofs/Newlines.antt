@@ -1,13 +1,14 @@
 -- Where the first line of bytes ends.
-use Rattle.std.proofs.Common.{◌≡◌, ℕ, suc, ◌+◌, ◌-◌, ◌<◌, Bool, List, [], ◌∷◌, ◌++◌, length, get_or, take, drop, sym, ap, ◌∙◌, cond, true, false, refl, arith, Some, None}
+use Rattle.std.proofs.Common.{◌≡◌, ℕ, suc, ◌+◌, ◌-◌, ◌<◌, ◌≤◌, inl, inr, subst, Bool, List, [], ◌∷◌, ◌++◌, length, get_or, take, drop, sym, ap, ◌∙◌, cond, true, false, refl, arith, Some, None}
 use Rattle.std.specs.Prelude.{◌==◌, nat_lt, position}
-use Rattle.std.specs.List.{position_or_len}
+use Rattle.std.specs.List.{after_first, before_first, position_or_len}
 use Rattle.std.proofs.Math.Seq.{drop-cons}
 use Rattle.std.proofs.lemmas.Bool.{eq-eqb, eqb-true, ltb-false, both_ways}
-use Rattle.std.proofs.lemmas.List.{length-take-le, get_or-take, take-append-drop, take_rest}
+use Rattle.std.proofs.lemmas.List.{length-take-le, get_or-take, take-append-drop, take_rest, take_all, drop_all}
 use Rattle.std.proofs.lemmas.List.Quantifiers.{position-Some}
 use Rattle.std.proofs.lemmas.List.Sums.{fails_before_first}
 use Rattle.tl_logs.specs.LogsFile.{IsInOneLine}
+use Rattle.tl_logs.specs.Inner.Lines.{CutsLine}
 
 abbrev pub is_newline : ℕ → Bool
 is_newline byte = byte == 10
@@ -48,3 +49,21 @@ nothing_left bytes n whole = ap (λ (m : ℕ). take m (drop n bytes)) (none n)
   where
     none : (m : ℕ) → m - m ≡ 0
     none m = omega arith
+
+-- the bytes are cut after their first line
+pub line_cut : (bytes words rest : List ℕ) → words ≡ before_first is_newline bytes → rest ≡ after_first is_newline bytes → CutsLine bytes words rest
+line_cut bytes words rest before behind = go (nat_lt (position_or_len is_newline bytes) (length bytes)) refl
+  where
+    end : ℕ
+    end = position_or_len is_newline bytes
+
+    go : (b : Bool) → nat_lt (position_or_len is_newline bytes) (length bytes) ≡ b → CutsLine bytes words rest
+    go true e =
+        let cut = cut_there bytes words end (ap (λ (c : Bool). cond c (Some end) None) e) before in
+        (cut.0, inl (cut.1 ∙ ap (λ (t : List ℕ). words ++ 10 ∷ t) (take_rest bytes (end + 1) ∙ sym behind)))
+    go false e =
+        let past : length bytes ≤ end = ltb-false end (length bytes) e in
+        let whole : words ≡ bytes = before ∙ take_all end bytes past in (
+          subst IsInOneLine (sym whole) (no_newline bytes (sym (ap (λ (c : Bool). cond c (Some end) None) e))),
+          inr (sym whole, behind ∙ drop_all (end + 1) bytes (omega (arith, past))),
+        )

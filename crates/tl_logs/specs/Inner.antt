@@ -13,3 +13,5 @@ pub
     mod OneLine
 pub
     mod Stream
+pub
+    mod Listing

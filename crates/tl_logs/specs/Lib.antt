@@ -1,5 +1,6 @@
 pub mod FaultWords
 pub mod LogsFile
+pub mod LogList
 pub mod ReadLogs
 pub mod State
 pub mod StateFaults

@@ -6,9 +6,10 @@ use std::fmt::{self, Display, Formatter};
 /// Why the file of logs isn't read. Lines are counted from 1.
 #[derive(Clone, Copy, Debug, PartialEq, Eq)]
 pub enum LogsFault {
-    /// This line, the first bad one, has no form that a line of the file may have.
+    /// This line, the first bad one, has no form that a line of the file may have. In a list, the log that begins with
+    /// this line, the first bad one, has no right key or name.
     Malformed(u64),
-    /// This line, the first bad one, gives a log a key that the log already has.
+    /// This line, the first bad one, gives a log a key that the log already has, or begins such a log of a list.
     Twice(u64),
     /// Allocation failed.
     OutOfMemory,

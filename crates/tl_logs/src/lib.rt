@@ -10,6 +10,8 @@
 //! let bad = read_logs(alloc, b"# one log\nexample.com/log\n"); // `LogsFault::Malformed(2)`: no key in line 2
 //! ```
 //!
+//! It may also be a list of logs, as it is published: `logs/v0`, and then `vkey KEY` and `origin NAME` for each log.
+//!
 //! The state has one line for each link that the witness saved, as `tl_witness::write_chain_line` writes it. A start
 //! needs only the last size and root of each log. `read_state` reads the lines as a stream, checks each link against
 //! the one before, and keeps only these heads. `whole_chains` makes them the chains that `tl_witness::Book::open`
@@ -26,11 +28,13 @@
 #![tactic(auto)]
 
 mod by_origin;
+mod entry;
 mod fault;
 mod head;
 mod known;
 mod law;
 mod line;
+mod listing;
 mod log;
 mod one_line;
 mod placing;

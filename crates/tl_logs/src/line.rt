@@ -3,6 +3,7 @@
 ghost use Rattle.std.specs.Prelude.{◌≡◌, ◌↔◌, IsTrue};
 ghost use Rattle.tl_logs.specs.LogsFile.{IsPassedOver};
 ghost use Rattle.tl_logs.specs.Inner.Lines.{ReadsAlone, ReadsBehind, ReadsLine, ReadsNamed, ReadsText};
+ghost use Rattle.tl_logs.specs.Inner.Listing.{ReadsUnder};
 
 use std::alloc::{AllocError, AllocFailed, Allocator};
 use std::str;
@@ -67,8 +68,8 @@ fn read_key<A: Allocator + Send + Sync>(alloc: A, text: &str) -> Result<NoteVeri
     }
 }
 
-// Parses a verifier key, whose name is the log's.
-fn key_alone<A: Allocator + Copy + Send + Sync>(
+/// Parses a verifier key, whose name is the log's.
+pub(crate) fn key_alone<A: Allocator + Copy + Send + Sync>(
     alloc: A,
     text: &str,
 ) -> Result<KeyLine<A>, LineFault>
@@ -79,6 +80,24 @@ fn key_alone<A: Allocator + Copy + Send + Sync>(
         Err(fault) => return Err(fault),
     };
     let Ok(origin) = String::from_str(alloc, key.name()) else {
+        return Err(LineFault::OutOfMemory);
+    };
+    Ok(KeyLine { origin, key })
+}
+
+/// Parses a verifier key, given to the log with this name.
+pub(crate) fn key_under<A: Allocator + Copy + Send + Sync>(
+    alloc: A,
+    name: &str,
+    text: &str,
+) -> Result<KeyLine<A>, LineFault>
+    ensures { ReadsUnder name.now text.now result }
+{
+    let key = match read_key(alloc, text) {
+        Ok(key) => key,
+        Err(fault) => return Err(fault),
+    };
+    let Ok(origin) = String::from_str(alloc, name) else {
         return Err(LineFault::OutOfMemory);
     };
     Ok(KeyLine { origin, key })
@@ -97,14 +116,7 @@ fn key_behind<A: Allocator + Copy + Send + Sync>(
     if !is_key_name(name) {
         return Err(LineFault::Malformed);
     }
-    let key = match read_key(alloc, key) {
-        Ok(key) => key,
-        Err(fault) => return Err(fault),
-    };
-    let Ok(origin) = String::from_str(alloc, name) else {
-        return Err(LineFault::OutOfMemory);
-    };
-    Ok(KeyLine { origin, key })
+    key_under(alloc, name, key)
 }
 
 // Parses a line that gives a key, in either form.

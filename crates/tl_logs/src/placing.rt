@@ -62,8 +62,8 @@ fn first_key<A: Allocator + Copy + Send + Sync>(
     Ok(KnownLog { origin, keys })
 }
 
-// Appends a key to those of its log, whose position the map has, or begins a new log.
-fn put_key<A: Allocator + Copy + Send + Sync>(
+/// Appends a key to those of its log, whose position the map has, or begins a new log.
+pub(crate) fn put_key<A: Allocator + Copy + Send + Sync>(
     alloc: A,
     logs: &mut Vec<KnownLog<A>, A>,
     index: &mut ByOrigin<A>,

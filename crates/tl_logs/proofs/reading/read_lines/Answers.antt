@@ -4,7 +4,7 @@ use Rattle.tl_logs.specs.ReadLogs.{logs_shown}
 use Rattle.tl_logs.specs.Inner.ByOrigin.{index_of}
 use Rattle.tl_logs.proofs.IndexLaws.{indexes_none}
 use Rattle.tl_logs.proofs.FileLaws.{read_none, read_more, refused, shorter}
-use Rattle.tl_logs.proofs.reading.read_logs.Goals as goal
+use Rattle.tl_logs.proofs.reading.read_lines.Goals as goal
 
 pub loop-left-init : goal.loop-left-init
 loop-left-init g c = rw c.new-logs.ensures.items (read_none c.args.bytes.now, indexes_none (index_of c.new-index.result) c.new-index.ensures)
