@@ -10,7 +10,7 @@ use Rattle.tl_command.specs.ProofCommands.{InclusionComes, ConsistencyComes, Che
 use Rattle.tl_command.specs.AuditCommand.{AuditComes}
 use Rattle.tl_run.specs.declared.fault.RunFault.{RunFault}
 use Rattle.tl_cli.specs.declared.job.Job.{Job}
-use Rattle.tl_cli.specs.declared.job.Job.TheVariants.{Head, Build, BuildSigned, Append, AppendTo, Inclusion, Consistency, Check, CheckUnder, CheckFork, Keygen, KeygenTo, Open, Audit, Serve, ServeFrom, Witness, Fetch, Feed, Verify, Prove, Submit, Version, Help}
+use Rattle.tl_cli.specs.declared.job.Job.TheVariants.{Head, Build, BuildSigned, Append, AppendTo, Inclusion, Consistency, Check, CheckUnder, CheckFork, Keygen, KeygenTo, Open, Audit, Serve, ServeFrom, Witness, Fetch, FetchBy, Feed, Verify, Prove, Submit, Version, Help}
 use Rattle.tl_run.specs.Signing.{demo_log_key}
 use Rattle.tl_command.specs.Build.{RunsBuild}
 use Rattle.tl_command.specs.Signed.{RunsSigned}
@@ -23,6 +23,7 @@ use Rattle.tl_fetch.specs.Command.{RunsFetch}
 use Rattle.tl_fetch.specs.FeedCommand.{RunsFeed}
 use Rattle.tl_prove.specs.VerifyCommand.{RunsVerify}
 use Rattle.tl_prove.specs.ProveCommand.{RunsProve}
+use Rattle.tl_prove.specs.FetchCommand.{RunsFetchBy}
 use Rattle.tl_prove.specs.SubmitCommand.{RunsSubmit}
 use Rattle.tl_prove.specs.declared.fault.ProveFault.{ProveFault}
 use Rattle.tl_run.specs.Origins.{RefusesOrigin}
@@ -76,8 +77,8 @@ abbrev pub key_kind : Bool → ℕ
 key_kind true = cosignature_kind
 key_kind false = note_kind
 
--- the outcome of a command has this property; that of `fetch` or `feed` has; that of `verify`, `prove` or `submit`
--- has; that of `witness` has
+-- the outcome of a command has this property; that of `fetch` or `feed` has; that of `verify`, `prove` or `submit`, or
+-- of `fetch` under a policy, has; that of `witness` has
 abbrev pub IsRun : (Result (Unit {0}) RunFault → Type 0) → Result (Unit {0}) CommandFault → Type 0
 IsRun Is result = (outcome : Result (Unit {0}) RunFault) × Is outcome × (result ≡ by_run outcome)
 
@@ -91,8 +92,8 @@ abbrev pub IsWitness : (Result (Unit {0}) WitnessFault → Type 0) → Result (U
 IsWitness Is result = (outcome : Result (Unit {0}) WitnessFault) × Is outcome × (result ≡ by_witness outcome)
 
 -- a run of a job's command: `i` is its reader, `o` its writer, and `e` standard error, to which only `keygen`,
--- `fetch`, `feed`, `submit` and the servers write; `folder` is the folder of a log that it had to itself, if it had one,
--- whatever was there at first
+-- `fetch`, `feed`, `submit` and the servers write; `folder` is the folder of a log that it had to itself, if it had
+-- one, whatever was there at first
 abbrev pub RunsJob : Held → Reached → Job → Option Folder → Passage → Passage → Passage → Result (Unit {0}) CommandFault → Type 0
 RunsJob held reached (Head options) folder i o e result = IsRun (RunsHead (string_bytes options.origin) i o) result × IsUnwritten e
 RunsJob held reached (Build options) folder i o e result =
@@ -122,6 +123,7 @@ RunsJob held reached (ServeFrom options) folder i o e result = ServesFrom held r
 RunsJob held reached (Witness options) folder i o e result =
     IsWitness (RefusesLog options.logs i) result × SparesStreams options i o
 RunsJob held reached (Fetch options) folder i o e result = IsFetched (RunsFetch options o) result × IsUnread i
+RunsJob held reached (FetchBy options) folder i o e result = IsProved (RunsFetchBy options o) result × IsUnread i
 RunsJob held reached (Feed options) folder i o e result = IsFetched (RunsFeed options o) result × IsUnread i
 RunsJob held reached (Verify options) folder i o e result = IsProved (RunsVerify options i o) result × IsUnwritten e
 RunsJob held reached (Prove options) folder i o e result = IsProved (RunsProve options o) result × IsUnread i × IsUnwritten e

@@ -18,7 +18,7 @@ use Rattle.tl_serve.specs.declared.options.WitnessSignerKey.TheVariants as cosig
 use Rattle.tl_serve.specs.declared.options.KnownLogs.{KnownLogs}
 use Rattle.tl_serve.specs.declared.options.KnownLogs.TheVariants.{One, Listed}
 use Rattle.tl_cli.specs.declared.job.Job.{Job}
-use Rattle.tl_cli.specs.declared.job.Job.TheVariants.{BuildSigned, Append, AppendTo, CheckFork, CheckUnder, KeygenTo, Serve, ServeFrom, Witness, Fetch, Feed, Verify, Prove, Submit}
+use Rattle.tl_cli.specs.declared.job.Job.TheVariants.{BuildSigned, Append, AppendTo, CheckFork, CheckUnder, KeygenTo, Serve, ServeFrom, Witness, Fetch, FetchBy, Feed, Verify, Prove, Submit}
 
 -- the file of a key
 abbrev pub key_file : LogKey → Option Bytes
@@ -44,6 +44,7 @@ file_of job = None
 abbrev pub state_of : Job → Option Bytes
 state_of (Witness options) = option_map string_bytes options.state
 state_of (Fetch options) = option_map string_bytes options.state
+state_of (FetchBy options) = option_map string_bytes options.fetch.state
 state_of (Feed options) = option_map string_bytes options.log.state
 state_of job = None
 
@@ -58,6 +59,7 @@ log_of job = None
 -- the folder or the address that is fetched from
 abbrev pub source_of : Job → Option Bytes
 source_of (Fetch options) = Some (string_bytes options.from)
+source_of (FetchBy options) = Some (string_bytes options.fetch.from)
 source_of (Feed options) = Some (string_bytes options.log.from)
 source_of (Prove options) = Some (string_bytes options.from)
 source_of (Submit options) = Some (string_bytes options.to)
@@ -93,8 +95,9 @@ abbrev pub wanted_file : ProveRequest → Option Bytes
 wanted_file (request.Index index) = None
 wanted_file (request.Entry given) = entry_file given
 
--- the files of `verify`, `prove` and `submit`: that of the policy, of the entry, and of the extra data
+-- the files of `verify`, `prove`, `submit` and `fetch`: that of the policy, of the entry, and of the extra data
 abbrev pub policy_file : Job → Option Bytes
+policy_file (FetchBy options) = Some (string_bytes options.policy)
 policy_file (Verify options) = Some (string_bytes options.policy)
 policy_file (Prove options) = Some (string_bytes options.policy)
 policy_file (Submit options) = Some (string_bytes options.policy)

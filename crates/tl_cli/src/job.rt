@@ -4,7 +4,7 @@ use crate::in_bucket::{AppendToOptions, ServeFromOptions};
 use tl_append::AppendOptions;
 use tl_command::{BuildOptions, CheckOptions, HeadOptions, KeygenOptions, SignedOptions};
 use tl_fetch::{FeedOptions, FetchOptions};
-use tl_prove::{ProveOptions, SubmitOptions, VerifyOptions};
+use tl_prove::{PolicyFetchOptions, ProveOptions, SubmitOptions, VerifyOptions};
 use tl_serve::{ServeOptions, WitnessOptions};
 
 /// The options of `inclusion`.
@@ -79,6 +79,8 @@ pub enum Job {
     Witness(WitnessOptions),
     /// Fetch from a log that isn't trusted.
     Fetch(FetchOptions),
+    /// Fetch from a log that isn't trusted, under a policy.
+    FetchBy(PolicyFetchOptions),
     /// Bring a log's checkpoint before witnesses.
     Feed(FeedOptions),
     /// Check a proof of an entry under a policy.

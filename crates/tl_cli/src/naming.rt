@@ -52,6 +52,7 @@ fn state_of(job: &Job) -> Option<&str>
     match job {
         Job::Witness(options) => options.state.as_deref(),
         Job::Fetch(options) => options.state.as_deref(),
+        Job::FetchBy(options) => options.fetch.state.as_deref(),
         Job::Feed(options) => options.log.state.as_deref(),
         _ => None,
     }
@@ -107,6 +108,7 @@ fn source_of(job: &Job) -> Option<&str>
 {
     match job {
         Job::Fetch(options) => Some(options.from.as_str()),
+        Job::FetchBy(options) => Some(options.fetch.from.as_str()),
         Job::Feed(options) => Some(options.log.from.as_str()),
         Job::Prove(options) => Some(options.from.as_str()),
         Job::Submit(options) => Some(options.to.as_str()),
@@ -140,6 +142,7 @@ fn policy_file(job: &Job) -> Option<&str>
     ensures { option_map (λ s. s.now) result ≡ policy_file job.now }
 {
     match job {
+        Job::FetchBy(options) => Some(options.policy.as_str()),
         Job::Verify(options) => Some(options.policy.as_str()),
         Job::Prove(options) => Some(options.policy.as_str()),
         Job::Submit(options) => Some(options.policy.as_str()),

@@ -135,7 +135,7 @@ not_fresh policy note c fault trusted named (inl memory) =
     inr (inl (head.OutOfMemory, (checkpoint.checkpoint_text c, trusted.1.signed.lines, trusted.1.signed.noted), memory))
 not_fresh policy note c fault trusted named (inr (inl none)) =
     absurd (none (checkpoint.checkpoint_text c) trusted.1.signed.lines trusted.1.signed.noted)
-not_fresh policy note c fault trusted named (inr (inr (since, told, old))) = inr (inr (
+not_fresh policy note c fault trusted named (inr (inr (since, told, old))) = inr (inr (inl (
   since,
   told,
   record {
@@ -148,4 +148,4 @@ not_fresh policy note c fault trusted named (inr (inr (since, told, old))) = inr
     noted = old.noted;
     early = λ key line time known stands valid. old.early key known line stands time valid;
   },
-))
+)))

@@ -30,6 +30,11 @@ use Rattle.tl_fetch.specs.Fetching.{Grounds, HasFetched, RefusesFetch, Store, un
 abbrev pub public_keys : List PublicKey → List Bytes
 public_keys keys = map (λ k. k.key) keys
 
+-- one key, or two
+abbrev pub keys_of : PublicKey → Option PublicKey → List PublicKey
+keys_of key None = key ∷ []
+keys_of key (Some other) = key ∷ other ∷ []
+
 -- the texts of the log's keys, one or two
 abbrev pub other_texts : {A : Type 0} → Option (String A) → List Bytes
 other_texts None = []
@@ -73,6 +78,7 @@ pub record IsPolicyOf (options : FetchOptions) (policy : Policy) : Type 0 where
   pub trusted : policy.trust.keys ≡ map verifier_key keys
   pub need : policy.trust.need ≡ options.need
   pub since : IsSinceOf options.fresh policy.since
+  pub no_text : policy.under ≡ None
   pub own : HaveOwnKeys (public_keys keys) (witness_texts options)
 
 -- ---- the grounds of a run

@@ -2,9 +2,10 @@
 use Rattle.std.specs.Prelude.{ℕ, ◌++◌, [], Bool, true, false, codes, Option, Some}
 use Rattle.tl_hash.specs.Bytes.{Bytes}
 use Rattle.tl_text.specs.Text.{number_text}
+use Rattle.tl_policy.specs.FaultWords.{trust_words}
 use Rattle.tl_run.specs.Faults.{exit_status, fault_text, fault_words}
 use Rattle.tl_fetch.specs.declared.fault.FetchFault.{FetchFault}
-use Rattle.tl_fetch.specs.declared.fault.FetchFault.TheVariants.{Run, BadAddress, OtherKey, BadWitness, SharedKey, Unavailable, OtherLog, TooFew, Stale, BadTile, BadBundle, BadEntry, Older, Forked}
+use Rattle.tl_fetch.specs.declared.fault.FetchFault.TheVariants.{Run, BadAddress, OtherKey, BadWitness, SharedKey, Unavailable, OtherLog, TooFew, Untrusted, Stale, BadTile, BadBundle, BadEntry, Older, Forked}
 
 -- the words behind an older checkpoint: none if it was compared
 abbrev pub uncompared_words : Bool → Bytes
@@ -21,6 +22,7 @@ fetch_words (SharedKey place) = codes "witness " ++ number_text place ++ codes "
 fetch_words Unavailable = codes "not available"
 fetch_words OtherLog = codes "checkpoint of another log"
 fetch_words (TooFew count) = codes "cosigned by " ++ number_text count ++ codes " witnesses"
+fetch_words (Untrusted why) = trust_words why
 fetch_words (Stale time) = codes "checkpoint not cosigned since " ++ number_text time
 fetch_words (BadTile level index width) =
     codes "tile " ++ number_text level ++ codes " " ++ number_text index ++ codes " " ++ number_text width ++ codes " wrong"

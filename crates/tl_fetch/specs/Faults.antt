@@ -10,6 +10,8 @@ use Rattle.tl_command.specs.Open.{after_note}
 use Rattle.tl_run.specs.declared.place.Place.TheVariants as place
 use Rattle.tl_run.specs.declared.fault.RunFault.{RunFault}
 use Rattle.tl_run.specs.declared.fault.RunFault.TheVariants as run
+use Rattle.tl_policy.specs.declared.trust_fault.TrustFault.{TrustFault}
+use Rattle.tl_policy.specs.declared.trust_fault.TrustFault.TheVariants as trust
 use Rattle.tl_fetch.specs.declared.fault.FetchFault.{FetchFault}
 use Rattle.tl_fetch.specs.declared.fault.FetchFault.TheVariants as fetch
 
@@ -39,6 +41,11 @@ after_head (head.Unopened fault) = fetch.Run (after_unopened fault)
 after_head (head.NoCheckpoint fault) = fetch.Run bad_checkpoint
 after_head (head.TooFew count) = fetch.TooFew count
 after_head head.OutOfMemory = fetch.Run run.OutOfMemory
+
+-- the fault for a checkpoint that the text of a policy doesn't trust
+abbrev pub after_trust : TrustFault → FetchFault
+after_trust trust.OutOfMemory = fetch.Run run.OutOfMemory
+after_trust why = fetch.Untrusted why
 
 -- a fault that doesn't say that the log forked
 abbrev pub IsNoAccusation : FetchFault → Type 0

@@ -15,3 +15,5 @@ pub
     mod LogKeys
 pub
     mod Witnesses
+pub
+    mod Late

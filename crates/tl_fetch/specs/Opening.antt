@@ -1,5 +1,6 @@
 -- Why a checkpoint isn't trusted (C2SP signed-note, tlog-checkpoint, tlog-cosignature).
-use Rattle.std.specs.Prelude.{◌≡◌, ◌≢◌, ◌⊎◌, ◌<◌, ℕ, List, Contains, Err, IsUtf8, Option, Some, None}
+use Rattle.std.specs.Prelude.{◌≡◌, ◌≢◌, ◌⊎◌, ◌<◌, ℕ, false, List, Contains, Err, IsUtf8, Option, Some, None}
+use Rattle.std.specs.List.{list_any}
 use Rattle.std.specs.Global.{Global}
 use Rattle.tl_hash.specs.Bytes.{Bytes}
 use Rattle.tl_note.specs.Key.{Key}
@@ -10,12 +11,15 @@ use Rattle.tl_checkpoint.specs.Checkpoint as checkpoint
 use Rattle.tl_checkpoint.specs.Cosignature.{IsCosignature}
 use Rattle.tl_client.specs.Trusted.{IsTrusted, OpensHead}
 use Rattle.tl_client.specs.declared.head.HeadFault.{HeadFault}
+use Rattle.tl_policy.specs.Terms.{Terms}
+use Rattle.tl_policy.specs.Trust as file
+use Rattle.tl_policy.specs.declared.trust_fault.TrustFault.{TrustFault}
 use Rattle.tl_run.specs.declared.place.Place.TheVariants.{State}
 use Rattle.tl_run.specs.declared.fault.RunFault.TheVariants.{BadCheckpoint, OutOfMemory}
 use Rattle.tl_fetch.specs.declared.fault.FetchFault.{FetchFault}
 use Rattle.tl_fetch.specs.declared.fault.FetchFault.TheVariants.{Run, OtherLog, Stale, Unavailable}
-use Rattle.tl_fetch.specs.Faults.{after_head, bad_checkpoint}
-use Rattle.tl_fetch.specs.Trusting.{Policy, alone}
+use Rattle.tl_fetch.specs.Faults.{after_head, after_trust, bad_checkpoint}
+use Rattle.tl_fetch.specs.Trusting.{Policy, Under, alone, is_late}
 
 -- the note is trusted, and of a log with another name
 pub record IsOfOther (policy : Policy) (note : Bytes) : Type 0 where
@@ -39,11 +43,32 @@ pub record IsStale (policy : Policy) (note : Bytes) (since : ℕ) : Type 0 where
   pub noted : Note note text lines
   pub early : (key : Key) (line : Signature) (time : ℕ) → Contains policy.trust.witnesses key → Contains lines line → IsCosignature text key line time → time < since
 
+-- the text of a policy doesn't trust the note, for a reason that has this fault
+abbrev pub IsUntrustedBy : Terms → Bytes → FetchFault → Type 0
+IsUntrustedBy terms note fault =
+    (why : TrustFault) × file.OpensUnder {A = Global} terms note (Err why) × (fault ≡ after_trust why)
+
+-- it does, and none of its witnesses cosigned the note's checkpoint at the time that is asked for, or later
+pub record IsOldUnder (under : Under) (note : Bytes) (since : ℕ) : Type 0 where
+  pub asked : under.since ≡ Some since
+  pub checkpoint : checkpoint.Head
+  pub place : ℕ
+  pub times : List (Option ℕ)
+  pub trusted : file.IsTrusted under.terms note checkpoint place times
+  pub early : list_any (is_late since) times ≡ false
+
+-- why a note isn't trusted by what a text says
+abbrev pub RefusesUnder : Option Under → Bytes → FetchFault → Type 0
+RefusesUnder None note fault = ⊥
+RefusesUnder (Some under) note fault =
+    IsUntrustedBy under.terms note fault ⊎ ((since : ℕ) × (fault ≡ Stale since) × IsOldUnder under note since)
+
 -- why a note gives no size and root
 abbrev pub RefusesNote : Policy → Bytes → FetchFault → Type 0
 RefusesNote policy note fault =
     ((fault ≡ OtherLog) × IsOfOther policy note)
-    ⊎ (IsUntrusted policy note fault ⊎ ((since : ℕ) × (fault ≡ Stale since) × IsStale policy note since))
+    ⊎ (IsUntrusted policy note fault
+    ⊎ (((since : ℕ) × (fault ≡ Stale since) × IsStale policy note since) ⊎ RefusesUnder policy.under note fault))
 
 -- the fault if a state's note gives no size and root
 abbrev pub after_state : FetchFault → FetchFault

@@ -1,6 +1,9 @@
 -- Which checkpoints of a log are trusted, and when one replaces the last (C2SP tlog-checkpoint, tlog-cosignature; RFC
 -- 6962, section 2.1.2).
-use Rattle.std.specs.Prelude.{◌≡◌, ℕ, ◌≤◌, List, [], Contains, Option, Some, None}
+use Rattle.std.specs.Prelude.{◌≡◌, ℕ, ◌≤◌, Bool, true, false, List, [], Contains, Option, Some, None, map, nat_le, option_map}
+use Rattle.std.specs.List.{list_any}
+use Rattle.std.specs.Global.{Global}
+use Rattle.std.specs.declared.dyn_box.DynBox.{DynBox}
 use Rattle.sha2.specs.Sha256.{sha256}
 use Rattle.tl_hash.specs.Bytes.{Bytes}
 use Rattle.tl_note.specs.Key.{Key}
@@ -9,23 +12,50 @@ use Rattle.tl_proof.specs.Acceptance.{AcceptsConsistency}
 use Rattle.tl_checkpoint.specs.Checkpoint as checkpoint
 use Rattle.tl_checkpoint.specs.Cosignature.{IsCosignature}
 use Rattle.tl_client.specs.Trusted.{Trust, IsTrusted}
+use Rattle.tl_policy.specs.Terms.{Terms, terms_of}
+use Rattle.tl_policy.specs.Trust as file
 use Rattle.tl_hash.specs.declared.head.Head.{Head}
+use Rattle.tl_fetch.specs.declared.under.Under as memory
+use Rattle.tl_fetch.specs.declared.policy.Policy as keys
 
--- which checkpoints are trusted: the log's name and keys, the witnesses and how many of them have to cosign, and the
--- time, in seconds since 1970, from which on one of them has to, if there is one
+-- the text of a policy that has to trust a checkpoint, too (C2SP tlog-policy), and the time, in seconds since 1970,
+-- from which on one of its witnesses has to have cosigned, if there is one
+pub record Under : Type 0 where
+  pub terms : Terms
+  pub since : Option ℕ
+
+-- which checkpoints are trusted: the log's name and keys, the witnesses and how many of them have to cosign, the time
+-- from which on one of them has to, if there is one, and what a text says beside that
 pub record Policy : Type 0 where
   pub origin : Bytes
   pub trust : Trust
   pub since : Option ℕ
-
-abbrev pub policy_of : Bytes → List Key → List Key → ℕ → Option ℕ → Policy
-policy_of origin keys witnesses need since =
-    record { origin = origin; trust = record { keys = keys; witnesses = witnesses; need = need }; since = since }
+  pub under : Option Under
 
 -- the same policy without witnesses
 abbrev pub alone : Policy → Policy
-alone policy =
-    record { origin = policy.origin; trust = record { keys = policy.trust.keys; witnesses = []; need = 0 }; since = None }
+alone policy = record {
+  origin = policy.origin;
+  trust = record { keys = policy.trust.keys; witnesses = []; need = 0 };
+  since = None;
+  under = None;
+}
+
+-- ---- what a policy in memory says
+
+abbrev pub under_of : memory.Under → Under
+under_of u = record { terms = terms_of u.policy.now; since = u.since }
+
+-- the keys are those of these boxes
+abbrev pub policy_in : {G : Type 0} {F : G → Type 0} → (DynBox G Global F → Key) → keys.Policy G F → Policy
+policy_in key p = record {
+  origin = p.origin.now;
+  trust = record { keys = map key p.log.now; witnesses = map key p.witnesses.now; need = p.need };
+  since = p.since;
+  under = option_map under_of p.under;
+}
+
+-- ---- when a note is trusted
 
 -- one of the witnesses cosigned the note at this time or later
 pub record IsCosignedSince (note : Bytes) (witnesses : List Key) (since : ℕ) : Type 0 where
@@ -45,6 +75,22 @@ abbrev pub IsFresh : Bytes → List Key → Option ℕ → Type 0
 IsFresh note witnesses None = Unit {0}
 IsFresh note witnesses (Some since) = IsCosignedSince note witnesses since
 
+-- the time of a cosignature is this one or later
+abbrev pub is_late : ℕ → Option ℕ → Bool
+is_late since None = false
+is_late since (Some time) = nat_le since time
+
+-- one of the times is, if that is asked for
+abbrev pub AreFresh : List (Option ℕ) → Option ℕ → Type 0
+AreFresh times None = Unit {0}
+AreFresh times (Some since) = list_any (is_late since) times ≡ true
+
+-- a text trusts the note's checkpoint, which one of its witnesses cosigned at one of these times
+abbrev pub IsUnder : Option Under → Bytes → Type 0
+IsUnder None note = Unit {0}
+IsUnder (Some under) note =
+    (c : checkpoint.Head) × (place : ℕ) × (times : List (Option ℕ)) × file.IsTrusted under.terms note c place times × AreFresh times under.since
+
 -- the bytes are a note of the log's checkpoint of this size and root, which is trusted
 pub record IsNoteOf (policy : Policy) (note : Bytes) (head : Head) : Type 0 where
   pub checkpoint : checkpoint.Head
@@ -53,6 +99,7 @@ pub record IsNoteOf (policy : Policy) (note : Bytes) (head : Head) : Type 0 wher
   pub size : checkpoint.size ≡ head.size
   pub root : checkpoint.root ≡ head.root
   pub fresh : IsFresh note policy.trust.witnesses policy.since
+  pub under : IsUnder policy.under note
 
 -- what is known by the note that was trusted last, or without a note a log of no entries. A kept note was cosigned
 -- when it came

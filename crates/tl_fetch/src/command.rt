@@ -2,10 +2,10 @@
 
 ghost use Rattle.std.specs.Prelude.{◌≡◌, ◌++◌, string_bytes, IfErr, IfOk, codes, map};
 ghost use Rattle.tl_device.specs.Device.{passage};
-ghost use Rattle.tl_fetch.specs.Command.{HasScheme, IsOriginOf, IsSinceOf, IsStateFault, RunsFetch, RunsUnder, cached_answers, cached_lacks};
-ghost use Rattle.tl_fetch.specs.Inner.LogKeys.{AreTold, ToldBy, keys_of};
+ghost use Rattle.tl_fetch.specs.Command.{HasScheme, IsOriginOf, IsSinceOf, IsStateFault, RunsFetch, RunsUnder, cached_answers, cached_lacks, keys_of};
+ghost use Rattle.tl_fetch.specs.Inner.LogKeys.{AreTold, ToldBy};
 ghost use Rattle.tl_fetch.specs.Inner.Naming.{Renames, RunsOver, RunsWith, told_as};
-ghost use Rattle.tl_fetch.specs.Trusting.{policy_of};
+ghost use Rattle.tl_fetch.specs.Trusting.{policy_in};
 ghost use Rattle.tl_source.specs.Sources.{origin_of};
 ghost use Rattle.tl_source.specs.Url.{IsNoUrl};
 
@@ -89,8 +89,7 @@ fn fetch_beside<
     writer: &mut Counted<W>,
 ) -> Result<(), FetchFault>
     ensures { RunsWith (S.may_answer source.now) (S.may_lack source.now) (λ note. Unit {0})
-        IsStateFault (policy_of policy.now.origin.now (map (λ v. key v) policy.now.log.now)
-        (map (λ w. key w) policy.now.witnesses.now) policy.now.need policy.now.since)
+        IsStateFault (policy_in (λ v. key v) policy.now)
         FetchRequest.All (passage W.contents writer.old writer.new) result }
 {
     let wanted = FetchRequest::All;
@@ -130,8 +129,7 @@ fn fetch_with_file<
     writer: &mut Counted<W>,
 ) -> Result<(), FetchFault>
     ensures { RunsWith (S.may_answer source.now) (S.may_lack source.now) (λ note. Unit {0})
-        IsStateFault (policy_of policy.now.origin.now (map (λ v. key v) policy.now.log.now)
-        (map (λ w. key w) policy.now.witnesses.now) policy.now.need policy.now.since) wanted
+        IsStateFault (policy_in (λ v. key v) policy.now) wanted
         (passage W.contents writer.old writer.new) result }
 {
     let mut state = match AtomicFile::open(rt, alloc, path) {
@@ -173,8 +171,7 @@ fn fetch_with_state<
     writer: &mut Counted<W>,
 ) -> Result<(), FetchFault>
     ensures { RunsOver (S.may_answer source.now) (S.may_lack source.now)
-        (policy_of policy.now.origin.now (map (λ v. key v) policy.now.log.now)
-        (map (λ w. key w) policy.now.witnesses.now) policy.now.need policy.now.since) options.now
+        (policy_in (λ v. key v) policy.now) options.now
         (passage W.contents writer.old writer.new) result }
 {
     let wanted = options.wanted;
@@ -247,8 +244,7 @@ fn fetch_through<
 ) -> Result<(), FetchFault>
     ensures { RunsOver (cached_answers options.now.cache (S.may_answer source.now))
         (cached_lacks options.now.cache (S.may_lack source.now))
-        (policy_of policy.now.origin.now (map (λ v. key v) policy.now.log.now)
-        (map (λ w. key w) policy.now.witnesses.now) policy.now.need policy.now.since) options.now
+        (policy_in (λ v. key v) policy.now) options.now
         (passage W.contents writer.old writer.new) result }
 {
     let mut progress = Progress::new(alloc, errors, is_terminal);
@@ -266,8 +262,8 @@ fn fetch_through<
     fetch_with_state(rt, alloc, &source, policy, options, &mut caching, writer)
 }
 
-// Fetches from the source that the options name.
-fn fetch_as_asked<'s, H: Files<File = File> + HostClient, W: Write, E: Write>(
+/// Fetches from the source that the options name.
+pub(crate) fn fetch_as_asked<'s, H: Files<File = File> + HostClient, W: Write, E: Write>(
     rt: &'s H,
     alloc: Global,
     policy: &Policy<'_>,
@@ -276,8 +272,7 @@ fn fetch_as_asked<'s, H: Files<File = File> + HostClient, W: Write, E: Write>(
     errors: &'s mut Counted<E>,
     is_terminal: bool,
 ) -> Result<(), FetchFault>
-    ensures { RunsUnder (policy_of policy.now.origin.now (map (λ v. key v) policy.now.log.now)
-        (map (λ w. key w) policy.now.witnesses.now) policy.now.need policy.now.since) options.now
+    ensures { RunsUnder (policy_in (λ v. key v) policy.now) options.now
         (passage W.contents writer.old writer.new) result }
 {
     let from = options.from.as_str();
@@ -312,6 +307,7 @@ fn fetch_as_told<'s, H: Files<File = File> + HostClient, W: Write, E: Write>(
     requires told { ToldBy options.now policy.now.origin.now (map (λ v. key v) policy.now.log.now) }
     requires need { policy.now.need ≡ options.now.need }
     requires since { IsSinceOf options.now.fresh policy.now.since }
+    requires no_text { policy.now.under ≡ None }
     ensures { RunsFetch options.now (passage W.contents writer.old writer.new) result }
 {
     match fetch_as_asked(rt, alloc, policy, options, writer, errors, is_terminal) {
@@ -350,6 +346,7 @@ fn fetch_by<'s, H: Files<File = File> + HostClient, W: Write, E: Write>(
             witnesses,
             need,
             since,
+            under: None,
         };
         return fetch_as_told(rt, alloc, &policy, options, writer, errors, is_terminal);
     };
@@ -360,6 +357,7 @@ fn fetch_by<'s, H: Files<File = File> + HostClient, W: Write, E: Write>(
         witnesses,
         need,
         since,
+        under: None,
     };
     fetch_as_told(rt, alloc, &policy, options, writer, errors, is_terminal)
 }

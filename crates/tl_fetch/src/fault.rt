@@ -6,6 +6,7 @@ ghost use Rattle.tl_fetch.specs.FaultWords.{fetch_status, fetch_text, uncompared
 use std::alloc::{AllocError, AllocFailed, Allocator};
 use std::error::Error;
 use std::fmt::{self, Display, Formatter};
+use tl_policy::TrustFault;
 use tl_run::{RunFault, exit_of, fault_line};
 
 /// An address that the options name.
@@ -18,7 +19,7 @@ pub enum Address {
 }
 
 /// Why nothing, or not everything, was fetched from a log that isn't trusted.
-#[derive(Clone, Copy, Debug, PartialEq, Eq)]
+#[derive(Clone, Copy, Debug)]
 pub enum FetchFault {
     /// A fault that other commands have, too.
     Run(RunFault),
@@ -36,6 +37,8 @@ pub enum FetchFault {
     OtherLog,
     /// Only this many witnesses cosigned the checkpoint.
     TooFew(u64),
+    /// The text of a policy doesn't trust the checkpoint.
+    Untrusted(TrustFault),
     /// None of the witnesses cosigned the checkpoint at this time, in seconds since 1970, or later.
     Stale(u64),
     /// This tile isn't the one that the root was made with.
@@ -86,6 +89,7 @@ impl Display for FetchFault {
             FetchFault::Unavailable => "not available",
             FetchFault::OtherLog => "checkpoint of another log",
             FetchFault::TooFew(n) => return write!(f, "cosigned by {n} witnesses"),
+            FetchFault::Untrusted(why) => return why.fmt(f),
             FetchFault::Stale(time) => return write!(f, "checkpoint not cosigned since {time}"),
             FetchFault::BadTile {
                 level,

@@ -1,12 +1,13 @@
 //! The faults of checks as faults of the command.
 
 ghost use Rattle.std.specs.Prelude.{◌≡◌};
-ghost use Rattle.tl_fetch.specs.Faults.{IsNoAccusation, after_client, after_head, after_unopened};
+ghost use Rattle.tl_fetch.specs.Faults.{IsNoAccusation, after_client, after_head, after_trust, after_unopened};
 
 use crate::fault::FetchFault;
 use tl_client::{ClientFault, HeadFault};
 use tl_command::note_refusal;
 use tl_note::NoteFault;
+use tl_policy::TrustFault;
 use tl_run::{Place, RunFault};
 use tl_tile::Resource;
 
@@ -59,5 +60,16 @@ pub(crate) fn head_refusal(fault: HeadFault) -> FetchFault
         HeadFault::NoCheckpoint(_) => FetchFault::Run(BAD_CHECKPOINT),
         HeadFault::TooFew(count) => FetchFault::TooFew(count),
         HeadFault::OutOfMemory => FetchFault::Run(RunFault::OutOfMemory),
+    }
+}
+
+/// Returns the fault of the command for a checkpoint that the text of a policy doesn't trust.
+pub(crate) fn trust_refusal(fault: TrustFault) -> FetchFault
+    ensures value { result ≡ after_trust fault }
+    ensures fair { IsNoAccusation result }
+{
+    match fault {
+        TrustFault::OutOfMemory => FetchFault::Run(RunFault::OutOfMemory),
+        _ => FetchFault::Untrusted(fault),
     }
 }

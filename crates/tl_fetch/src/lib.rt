@@ -17,6 +17,7 @@
 //!     witnesses: &[],
 //!     need: 0,
 //!     since: None,
+//!     under: None,
 //! };
 //! let url = Url::parse("http://log.example/2026/").unwrap();
 //! let source = HttpSource::new(&rt, Global, url, Duration::from_secs(10));
@@ -36,8 +37,10 @@
 #![tactic(auto)]
 
 mod ahead;
+mod by_policy;
 mod caching;
 mod command;
+mod cosigned;
 mod entry;
 mod fault;
 mod faults;
@@ -57,8 +60,10 @@ mod progress;
 mod run;
 mod state;
 mod state_file;
+mod under;
 mod witnesses;
 
+pub use by_policy::fetch_by_policy;
 pub use command::{name_lack, run_fetch, source_of};
 pub use entry::fetch_entry;
 pub use fault::{Address, FetchFault, fetch_exit_of, fetch_fault_line};
@@ -76,3 +81,4 @@ pub use printing::{print_entry, print_head, print_proof, print_raw};
 pub use run::fetch_under;
 pub use state::{NoState, TrustStore};
 pub use state_file::FileState;
+pub use under::Under;

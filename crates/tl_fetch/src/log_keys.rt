@@ -1,8 +1,8 @@
 //! The log's keys that the options name.
 
 ghost use Rattle.std.specs.Prelude.{◌≡◌, ◌∷◌, [], IfErr, IfOk, MatchBool, Some, string_bytes};
-ghost use Rattle.tl_fetch.specs.Command.{HaveLogKeys, IsKeyFault, log_texts};
-ghost use Rattle.tl_fetch.specs.Inner.LogKeys.{AreNotTwo, AreTold, AreTwo, keys_of};
+ghost use Rattle.tl_fetch.specs.Command.{HaveLogKeys, IsKeyFault, keys_of, log_texts};
+ghost use Rattle.tl_fetch.specs.Inner.LogKeys.{AreNotTwo, AreTold, AreTwo};
 ghost use Rattle.tl_key.specs.KeyText.{IsVerifierText};
 ghost use Rattle.tl_key.specs.NoteKey.{note_kind};
 

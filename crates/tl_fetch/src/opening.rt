@@ -6,8 +6,9 @@ ghost use Rattle.tl_fetch.specs.Faults.{IsNoAccusation};
 ghost use Rattle.tl_fetch.specs.Fetching.{LacksLast, LacksTrust, unseen_of};
 ghost use Rattle.tl_fetch.specs.Inner.Trusted.{RefusesText};
 ghost use Rattle.tl_fetch.specs.Opening.{RefusesCheckpoint, RefusesNote, RefusesState, after_state};
-ghost use Rattle.tl_fetch.specs.Trusting.{IsKnown, IsNoteOf, policy_of};
+ghost use Rattle.tl_fetch.specs.Trusting.{IsKnown, IsNoteOf, policy_in};
 
+use crate::cosigned::check_under;
 use crate::fault::FetchFault;
 use crate::faults::{BAD_CHECKPOINT, head_refusal};
 use crate::freshness::check_fresh;
@@ -40,17 +41,15 @@ fn read_note<S: ResourceSource>(alloc: Global, source: &S) -> Result<String, Fet
 
 /// Returns the size and the root of a log by a trusted note: it opens under the log's keys, its text is a checkpoint
 /// (C2SP tlog-checkpoint) that enough of the witnesses cosigned (C2SP tlog-cosignature) and that names the log, and
-/// one of the witnesses cosigned it lately enough, if the policy asks for that. It fails with `OtherLog` if the
-/// checkpoint names another log, and with `Stale` if each cosignature by a witness is of an earlier time.
+/// one of the witnesses cosigned it lately enough, if the policy asks for that. The text of a policy, if there is one,
+/// has to trust it, too. It fails with `OtherLog` if the checkpoint names another log, with `Untrusted` if the text
+/// doesn't trust it, and with `Stale` if each cosignature by a witness is of an earlier time.
 pub fn open_trusted(alloc: Global, policy: &Policy<'_>, note: &str) -> Result<Head, FetchFault>
     ensures trusted { IfOk result
-        (λ head. IsNoteOf (policy_of policy.now.origin.now (map (λ v. key v) policy.now.log.now)
-        (map (λ w. key w) policy.now.witnesses.now) policy.now.need policy.now.since)
+        (λ head. IsNoteOf (policy_in (λ v. key v) policy.now)
         note.now head) }
     ensures fair { IfErr result IsNoAccusation }
-    ensures refused { IfErr result (RefusesNote (policy_of policy.now.origin.now (map (λ v. key v)
-        policy.now.log.now) (map (λ w. key w) policy.now.witnesses.now) policy.now.need
-        policy.now.since) note.now) }
+    ensures refused { IfErr result (RefusesNote (policy_in (λ v. key v) policy.now) note.now) }
 {
     let opened = open_cosigned(alloc, note, policy.log, policy.witnesses, policy.need);
     let checkpoint = match opened {
@@ -61,6 +60,9 @@ pub fn open_trusted(alloc: Global, policy: &Policy<'_>, note: &str) -> Result<He
         return Err(FetchFault::OtherLog);
     }
     if let Err(fault) = check_fresh(alloc, policy, note) {
+        return Err(fault);
+    }
+    if let Err(fault) = check_under(alloc, &policy.under, note) {
         return Err(fault);
     }
     Ok(Head {
@@ -87,13 +89,9 @@ pub fn trusted_head(
     policy: &Policy<'_>,
     last: Option<&str>,
 ) -> Result<Head, FetchFault>
-    ensures known { IfOk result (λ head. IsKnown (policy_of policy.now.origin.now (map (λ v.
-        key v) policy.now.log.now) (map (λ w. key w) policy.now.witnesses.now) policy.now.need
-        policy.now.since) (option_map (λ s. s.now) last.entry) head) }
+    ensures known { IfOk result (λ head. IsKnown (policy_in (λ v. key v) policy.now) (option_map (λ s. s.now) last.entry) head) }
     ensures fair { IfErr result IsNoAccusation }
-    ensures refused { IfErr result (RefusesState (policy_of policy.now.origin.now (map (λ v.
-        key v) policy.now.log.now) (map (λ w. key w) policy.now.witnesses.now) policy.now.need
-        policy.now.since) (option_map (λ s. s.now) last.entry)) }
+    ensures refused { IfErr result (RefusesState (policy_in (λ v. key v) policy.now) (option_map (λ s. s.now) last.entry)) }
 {
     let Some(note) = last else {
         return Ok(Head {
@@ -107,6 +105,7 @@ pub fn trusted_head(
         witnesses: &[],
         need: 0,
         since: None,
+        under: None,
     };
     match open_trusted(alloc, &alone, note) {
         Ok(head) => Ok(head),
@@ -128,13 +127,10 @@ pub(crate) fn trusted_last<K: TrustStore>(
     state: &K,
 ) -> Result<Trusted<Option<String>>, FetchFault>
     ensures had { IfOk result (λ t. K.may_have state.now (option_map string_bytes t.note)) }
-    ensures known { IfOk result (λ t. IsKnown (policy_of policy.now.origin.now (map (λ v.
-        key v) policy.now.log.now) (map (λ w. key w) policy.now.witnesses.now) policy.now.need
-        policy.now.since) (option_map string_bytes t.note) t.head) }
+    ensures known { IfOk result (λ t. IsKnown (policy_in (λ v. key v) policy.now) (option_map string_bytes t.note) t.head) }
     ensures fair { IfErr result IsNoAccusation }
     ensures refused { IfErr result (LacksLast (K.may_fail state.now) (K.may_have state.now)
-        (policy_of policy.now.origin.now (map (λ v. key v) policy.now.log.now)
-        (map (λ w. key w) policy.now.witnesses.now) policy.now.need policy.now.since)) }
+        (policy_in (λ v. key v) policy.now)) }
 {
     let note = match state.last(alloc) {
         Ok(note) => note,
@@ -155,14 +151,11 @@ fn trusted_now<S: ResourceSource>(
     ensures answered { IfOk result
         (λ t. S.may_answer source.now Checkpoint (string_bytes t.note)) }
     ensures trusted { IfOk result
-        (λ t. IsNoteOf (policy_of policy.now.origin.now (map (λ v. key v) policy.now.log.now) (map
-        (λ w. key w) policy.now.witnesses.now) policy.now.need policy.now.since)
+        (λ t. IsNoteOf (policy_in (λ v. key v) policy.now)
         (string_bytes t.note) t.head) }
     ensures fair { IfErr result IsNoAccusation }
     ensures refused { IfErr result (RefusesCheckpoint (S.may_answer source.now)
-        (S.may_lack source.now) (policy_of policy.now.origin.now (map (λ v. key v)
-        policy.now.log.now) (map (λ w. key w) policy.now.witnesses.now) policy.now.need
-        policy.now.since)) }
+        (S.may_lack source.now) (policy_in (λ v. key v) policy.now)) }
 {
     let note = match read_note(alloc, source) {
         Ok(note) => note,
@@ -182,20 +175,15 @@ pub(crate) fn trusted_two<S: ResourceSource, K: TrustStore>(
     state: &K,
 ) -> Result<(Trusted<Option<String>>, Trusted<String>), FetchFault>
     ensures had { IfOk result (λ t. K.may_have state.now (option_map string_bytes t.0.note)) }
-    ensures known { IfOk result (λ t. IsKnown (policy_of policy.now.origin.now (map (λ v.
-        key v) policy.now.log.now) (map (λ w. key w) policy.now.witnesses.now) policy.now.need
-        policy.now.since) (option_map string_bytes t.0.note) t.0.head) }
+    ensures known { IfOk result (λ t. IsKnown (policy_in (λ v. key v) policy.now) (option_map string_bytes t.0.note) t.0.head) }
     ensures answered { IfOk result
         (λ t. S.may_answer source.now Checkpoint (string_bytes t.1.note)) }
     ensures trusted { IfOk result (λ t. IsNoteOf
-        (policy_of policy.now.origin.now (map (λ v. key v) policy.now.log.now) (map (λ w.
-        key w) policy.now.witnesses.now) policy.now.need policy.now.since)
+        (policy_in (λ v. key v) policy.now)
         (string_bytes t.1.note) t.1.head) }
     ensures fair { IfErr result IsNoAccusation }
     ensures refused { IfErr result (LacksTrust (unseen_of (S.may_answer source.now)
-        (S.may_lack source.now) (K.may_have state.now) (K.may_fail state.now)) (policy_of
-        policy.now.origin.now (map (λ v. key v) policy.now.log.now)
-        (map (λ w. key w) policy.now.witnesses.now) policy.now.need policy.now.since)) }
+        (S.may_lack source.now) (K.may_have state.now) (K.may_fail state.now)) (policy_in (λ v. key v) policy.now)) }
 {
     let last = match trusted_last(alloc, policy, state) {
         Ok(last) => last,

@@ -1,5 +1,6 @@
 //! Which checkpoints of a log are trusted.
 
+use crate::under::Under;
 use tl_note::Verifier;
 
 /// Which checkpoints of a log are trusted: those that name the log, that the log signed, and that enough of the
@@ -18,4 +19,6 @@ pub struct Policy<'k> {
     /// The time, in seconds since 1970, from which on one of the witnesses must have cosigned; without it, any time
     /// will do.
     pub since: Option<u64>,
+    /// The text of a policy that has to trust the checkpoint, too.
+    pub under: Option<Under<'k>>,
 }

@@ -7,7 +7,7 @@ ghost use Rattle.tl_fetch.specs.Faults.{IsNoAccusation};
 ghost use Rattle.tl_fetch.specs.Fetching.{FailsAll, FailsGrown, HasFetched, HasPrinted, RefusesFetch, RefusesGrown, first_wanted, grounds_of};
 ghost use Rattle.tl_fetch.specs.Inner.Judging.{JudgesTwo, two_of};
 ghost use Rattle.tl_fetch.specs.Printed.{IsBegun, IsWanted, PrintedSome, PrintedWhole, RefusesWanted};
-ghost use Rattle.tl_fetch.specs.Trusting.{IsGrown, IsKnown, IsNoteOf, policy_of};
+ghost use Rattle.tl_fetch.specs.Trusting.{IsGrown, IsKnown, IsNoteOf, policy_in};
 
 use crate::fault::FetchFault;
 use crate::judging::{Update, is_same, judge};
@@ -81,12 +81,10 @@ fn keep_and_print<
     writer: &mut Counted<W>,
 ) -> Result<(), FetchFault>
     requires had { K.may_have state.old (option_map (λ s. s.now) step.now.last) }
-    requires known { IsKnown (policy_of policy.now.origin.now (map (λ v. key v) policy.now.log.now)
-        (map (λ w. key w) policy.now.witnesses.now) policy.now.need policy.now.since)
+    requires known { IsKnown (policy_in (λ v. key v) policy.now)
         (option_map (λ s. s.now) step.now.last) step.now.old.now }
     requires trusted { IsNoteOf
-        (policy_of policy.now.origin.now (map (λ v. key v) policy.now.log.now) (map
-        (λ w. key w) policy.now.witnesses.now) policy.now.need policy.now.since)
+        (policy_in (λ v. key v) policy.now)
         step.now.note.now step.now.new.now }
     requires grown { IsGrown step.now.old.now step.now.new.now }
     ensures printed { OnOk result (PrintedWhole (IsWanted policy.now.origin.now
@@ -95,8 +93,7 @@ fn keep_and_print<
     ensures refused { IfErr result (λ fault. FailsGrown
         (grounds_of (S.may_answer source.now) (S.may_lack source.now) (K.may_have state.old)
         (K.may_fail state.old) (state.new ≡ state.old) (K.has_kept state.new))
-        (policy_of policy.now.origin.now (map (λ v. key v) policy.now.log.now)
-        (map (λ w. key w) policy.now.witnesses.now) policy.now.need policy.now.since) wanted
+        (policy_in (λ v. key v) policy.now) wanted
         (two_of (option_map (λ s. s.now) step.now.last) step.now.old.now step.now.note.now
         step.now.new.now) fault (passage W.contents writer.old writer.new)) }
 {
@@ -138,17 +135,14 @@ fn print_and_keep<
     writer: &mut Counted<W>,
 ) -> Result<(), FetchFault>
     requires had { K.may_have state.old (option_map (λ s. s.now) step.now.last) }
-    requires known { IsKnown (policy_of policy.now.origin.now (map (λ v. key v) policy.now.log.now)
-        (map (λ w. key w) policy.now.witnesses.now) policy.now.need policy.now.since)
+    requires known { IsKnown (policy_in (λ v. key v) policy.now)
         (option_map (λ s. s.now) step.now.last) step.now.old.now }
     requires trusted { IsNoteOf
-        (policy_of policy.now.origin.now (map (λ v. key v) policy.now.log.now) (map
-        (λ w. key w) policy.now.witnesses.now) policy.now.need policy.now.since)
+        (policy_in (λ v. key v) policy.now)
         step.now.note.now step.now.new.now }
     requires grown { IsGrown step.now.old.now step.now.new.now }
     requires had_marked { C.may_have printed.old (option_map (λ s. s.now) since.now.last) }
-    requires marked { IsKnown (policy_of policy.now.origin.now (map (λ v. key v) policy.now.log.now)
-        (map (λ w. key w) policy.now.witnesses.now) policy.now.need policy.now.since)
+    requires marked { IsKnown (policy_in (λ v. key v) policy.now)
         (option_map (λ s. s.now) since.now.last) since.now.old.now }
     requires since { IsGrown since.now.old.now step.now.new.now }
     ensures printed { OnOk result (PrintedWhole (AreLinesBetween step.now.new.now
@@ -160,8 +154,7 @@ fn print_and_keep<
         (K.may_fail state.old) (state.new ≡ state.old) (K.has_kept state.new))
         (grounds_of (S.may_answer source.now) (S.may_lack source.now) (C.may_have printed.old)
         (C.may_fail printed.old) (printed.new ≡ printed.old) (C.has_kept printed.new))
-        (policy_of policy.now.origin.now (map (λ v. key v) policy.now.log.now)
-        (map (λ w. key w) policy.now.witnesses.now) policy.now.need policy.now.since) from
+        (policy_in (λ v. key v) policy.now) from
         (two_of (option_map (λ s. s.now) step.now.last) step.now.old.now step.now.note.now
         step.now.new.now) fault (passage W.contents writer.old writer.new)) }
 {
@@ -233,17 +226,14 @@ fn fetch_all<
     writer: &mut Counted<W>,
 ) -> Result<(), FetchFault>
     requires had { K.may_have state.old (option_map (λ s. s.now) step.now.last) }
-    requires known { IsKnown (policy_of policy.now.origin.now (map (λ v. key v) policy.now.log.now)
-        (map (λ w. key w) policy.now.witnesses.now) policy.now.need policy.now.since)
+    requires known { IsKnown (policy_in (λ v. key v) policy.now)
         (option_map (λ s. s.now) step.now.last) step.now.old.now }
     requires trusted { IsNoteOf
-        (policy_of policy.now.origin.now (map (λ v. key v) policy.now.log.now) (map
-        (λ w. key w) policy.now.witnesses.now) policy.now.need policy.now.since)
+        (policy_in (λ v. key v) policy.now)
         step.now.note.now step.now.new.now }
     requires grown { IsGrown step.now.old.now step.now.new.now }
     ensures printed { OnOk result (HasPrinted (C.may_have printed.old) (C.has_kept printed.new)
-        (policy_of policy.now.origin.now (map (λ v. key v) policy.now.log.now) (map (λ w. key w)
-        policy.now.witnesses.now) policy.now.need policy.now.since) (two_of (option_map (λ s. s.now)
+        (policy_in (λ v. key v) policy.now) (two_of (option_map (λ s. s.now)
         step.now.last) step.now.old.now step.now.note.now step.now.new.now) FetchRequest.All
         (passage W.contents writer.old writer.new)) }
     ensures kept { OnOk result (K.has_kept state.new step.now.note.now) }
@@ -252,8 +242,7 @@ fn fetch_all<
         (K.may_fail state.old) (state.new ≡ state.old) (K.has_kept state.new))
         (grounds_of (S.may_answer source.now) (S.may_lack source.now) (C.may_have printed.old)
         (C.may_fail printed.old) (printed.new ≡ printed.old) (C.has_kept printed.new))
-        (policy_of policy.now.origin.now (map (λ v. key v) policy.now.log.now) (map (λ w. key w)
-        policy.now.witnesses.now) policy.now.need policy.now.since) FetchRequest.All (two_of
+        (policy_in (λ v. key v) policy.now) FetchRequest.All (two_of
         (option_map (λ s. s.now) step.now.last) step.now.old.now step.now.note.now
         step.now.new.now) fault
         (passage W.contents writer.old writer.new)) }
@@ -302,17 +291,14 @@ fn fetch_grown<
     writer: &mut Counted<W>,
 ) -> Result<(), FetchFault>
     requires had { K.may_have state.old (option_map (λ s. s.now) step.now.last) }
-    requires known { IsKnown (policy_of policy.now.origin.now (map (λ v. key v) policy.now.log.now)
-        (map (λ w. key w) policy.now.witnesses.now) policy.now.need policy.now.since)
+    requires known { IsKnown (policy_in (λ v. key v) policy.now)
         (option_map (λ s. s.now) step.now.last) step.now.old.now }
     requires trusted { IsNoteOf
-        (policy_of policy.now.origin.now (map (λ v. key v) policy.now.log.now) (map
-        (λ w. key w) policy.now.witnesses.now) policy.now.need policy.now.since)
+        (policy_in (λ v. key v) policy.now)
         step.now.note.now step.now.new.now }
     requires grown { IsGrown step.now.old.now step.now.new.now }
     ensures printed { OnOk result (HasPrinted (C.may_have printed.old) (C.has_kept printed.new)
-        (policy_of policy.now.origin.now (map (λ v. key v) policy.now.log.now) (map (λ w. key w)
-        policy.now.witnesses.now) policy.now.need policy.now.since) (two_of (option_map (λ s. s.now)
+        (policy_in (λ v. key v) policy.now) (two_of (option_map (λ s. s.now)
         step.now.last) step.now.old.now step.now.note.now step.now.new.now) wanted
         (passage W.contents writer.old writer.new)) }
     ensures kept { OnOk result (K.has_kept state.new step.now.note.now) }
@@ -322,8 +308,7 @@ fn fetch_grown<
         (K.may_fail state.old) (state.new ≡ state.old) (K.has_kept state.new))
         (grounds_of (S.may_answer source.now) (S.may_lack source.now) (C.may_have printed.old)
         (C.may_fail printed.old) (printed.new ≡ printed.old) (C.has_kept printed.new))
-        (policy_of policy.now.origin.now (map (λ v. key v) policy.now.log.now) (map (λ w. key w)
-        policy.now.witnesses.now) policy.now.need policy.now.since) wanted (two_of
+        (policy_in (λ v. key v) policy.now) wanted (two_of
         (option_map (λ s. s.now) step.now.last) step.now.old.now step.now.note.now
         step.now.new.now) fault
         (passage W.contents writer.old writer.new)) }
@@ -364,8 +349,7 @@ pub fn fetch_under<
     ensures fetched { OnOk result (HasFetched (S.may_answer source.now)
         (record { may_have = K.may_have state.old; has_kept = K.has_kept state.new })
         (record { may_have = C.may_have printed.old; has_kept = C.has_kept printed.new })
-        (policy_of policy.now.origin.now (map (λ v. key v) policy.now.log.now)
-        (map (λ w. key w) policy.now.witnesses.now) policy.now.need policy.now.since) wanted
+        (policy_in (λ v. key v) policy.now) wanted
         (passage W.contents writer.old writer.new)) }
     ensures unmoved { wanted ≢ FetchRequest.All → printed.new ≡ printed.old }
     ensures refused { IfErr result (λ fault. RefusesFetch
@@ -373,8 +357,7 @@ pub fn fetch_under<
         (K.may_fail state.old) (state.new ≡ state.old) (K.has_kept state.new))
         (grounds_of (S.may_answer source.now) (S.may_lack source.now) (C.may_have printed.old)
         (C.may_fail printed.old) (printed.new ≡ printed.old) (C.has_kept printed.new))
-        (policy_of policy.now.origin.now (map (λ v. key v) policy.now.log.now)
-        (map (λ w. key w) policy.now.witnesses.now) policy.now.need policy.now.since) wanted fault
+        (policy_in (λ v. key v) policy.now) wanted fault
         (passage W.contents writer.old writer.new)) }
 {
     let (last, now) = match trusted_two(alloc, source, policy, state) {

@@ -10,7 +10,7 @@ pub trait TrustStore {
     ghost use Rattle.tl_hash.specs.Bytes.{Bytes};
     ghost use Rattle.tl_fetch.specs.Faults.{IsNoAccusation};
     ghost use Rattle.tl_fetch.specs.declared.fault.FetchFault.{FetchFault};
-    ghost use Rattle.tl_fetch.specs.Trusting.{IsNext, policy_of};
+    ghost use Rattle.tl_fetch.specs.Trusting.{IsNext, policy_in};
 
     /// Which note the store may have; None before the first one.
     ghost may_have: { Self → Option Bytes → Type 0 };
@@ -36,8 +36,7 @@ pub trait TrustStore {
         note: &str,
     ) -> Result<(), FetchFault>
         requires had { may_have self.old (option_map (λ s. s.now) last) }
-        requires next { IsNext (policy_of policy.now.origin.now (map (λ v. key v) policy.now.log.now)
-            (map (λ w. key w) policy.now.witnesses.now) policy.now.need policy.now.since)
+        requires next { IsNext (policy_in (λ v. key v) policy.now)
             (option_map (λ s. s.now) last) note.now }
         ensures kept { OnOk result (has_kept self.new note.now) }
         ensures refused { IfErr result (may_fail self.old) }

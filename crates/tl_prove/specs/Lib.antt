@@ -1,4 +1,4 @@
--- The definitions of the commands `verify`, `prove` and `submit`.
+-- The definitions of the commands `verify`, `prove` and `submit`, and of `fetch` under a policy.
 pub mod Entry
 pub mod Faults
 pub mod FaultWords
@@ -8,5 +8,6 @@ pub mod Accepted
 pub mod VerifyCommand
 pub mod Prove
 pub mod ProveCommand
+pub mod FetchCommand
 pub mod SubmitCommand
 pub mod Inner

@@ -23,11 +23,14 @@
 //!
 //! An entry may stand for a file (`digest_entry`): `sha256 `, the file's SHA-256, and a name if one is given. So files
 //! of any size can be logged.
+//!
+//! `run_fetch_by` is the command `fetch` under a policy.
 #![tactic(auto)]
 
 mod accepted;
 mod entry;
 mod fault;
+mod fetch_command;
 mod files;
 mod options;
 mod posting;
@@ -40,7 +43,10 @@ mod verifying;
 pub use accepted::accepted_lines;
 pub use entry::{MOST_DIGESTED, digest_entry, digest_of};
 pub use fault::{NamedFile, ProveFault, Refusal, prove_exit_of};
-pub use options::{EntryOptions, ProveOptions, ProveRequest, SubmitOptions, VerifyOptions};
+pub use fetch_command::run_fetch_by;
+pub use options::{
+    EntryOptions, PolicyFetchOptions, ProveOptions, ProveRequest, SubmitOptions, VerifyOptions,
+};
 pub use prove_command::run_prove;
 pub use proving::{Wanted, prove};
 pub use submit_command::run_submit;

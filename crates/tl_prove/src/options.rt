@@ -1,4 +1,6 @@
-//! The options of `verify`, `prove` and `submit`.
+//! The options of `verify`, `prove` and `submit`, and of `fetch` under a policy.
+
+use tl_fetch::FetchOptions;
 
 /// An entry, as the options of a command give it.
 #[derive(Drop)]
@@ -65,4 +67,13 @@ pub struct SubmitOptions {
     pub extra: Option<String>,
     /// How many seconds may pass until there is a proof, at least 1.
     pub timeout: u64,
+}
+
+/// The options of `fetch` under a policy.
+#[derive(Drop)]
+pub struct PolicyFetchOptions {
+    /// The file of the policy.
+    pub policy: String,
+    /// What is fetched, from where, and how. Its keys and witnesses aren't used, nor how many of them are needed.
+    pub fetch: FetchOptions,
 }

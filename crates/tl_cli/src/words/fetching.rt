@@ -1,12 +1,13 @@
 //! The words of the command `fetch`.
 
-use super::given::{count_given, text_if_given, text_of, texts_of, usage_error};
+use super::given::{count_given, is_given, text_if_given, text_of, texts_of, usage_error};
 use super::table::{Group, Kind, Word, Words};
 use super::{LOG_KEYS, TIMEOUT, WITNESS_KEY, WordsFault, texts};
 use crate::job::Job;
 use clap::ArgMatches;
 use std::alloc::{AllocError, Global};
 use tl_fetch::{FetchOptions, FetchRequest};
+use tl_prove::PolicyFetchOptions;
 
 // The message if not exactly one of the four requests is given.
 const ONE_WANTED: &str =
@@ -14,6 +15,10 @@ const ONE_WANTED: &str =
 
 /// The message if more cosignatures are needed than there are witnesses.
 pub(super) const FEWER: &str = "--need is at most the number of witnesses";
+
+// The message if it isn't said who is trusted, or twice.
+const ONE_TRUST: &str =
+    "one of --key and --policy is given, and --witness and --need with --key alone";
 
 // The message if a witness must have cosigned lately, and none is given.
 const FRESH_OF_NOBODY: &str = "--fresh is given with --witness alone";
@@ -33,10 +38,11 @@ const FETCH: Words = Words {
             heading: "Whose log, and who is trusted",
             words: words![
                 "from" "FROM" Kind::RequiredText => FROM;
-                "key" "VKEY" Kind::RequiredTexts => LOG_KEYS;
+                "key" "VKEY" Kind::Texts => LOG_KEYS;
                 "witness" "VKEY" Kind::Texts => WITNESS_KEY;
                 "need" "N" Kind::Number(0, u64::MAX)
                     => "How many witnesses must have cosigned (default: all)";
+                "policy" "FILE" Kind::Path => "In place of these three: a policy (C2SP tlog-policy)";
                 "fresh" "SECONDS" Kind::Number(0, u64::MAX)
                     => "Refuse what no witness cosigned since then";
                 "state" "FILE" Kind::Path => "The checkpoint that was trusted last";
@@ -106,10 +112,13 @@ fn other_key(alloc: Global, options: &ArgMatches<'_>) -> Result<Option<String>, 
     }
 }
 
-// Returns the texts of the log's keys, which are known to be one or two.
-fn log_keys(alloc: Global, options: &ArgMatches<'_>) -> Result<LogKeyTexts, WordsFault> {
+// Returns the texts of the log's keys, which are known to be one or two, or none if a policy is given.
+fn log_keys(alloc: Global, options: &ArgMatches<'_>) -> Result<LogKeyTexts, AllocError> {
     let other_key = other_key(alloc, options)?;
-    let key = text_of(alloc, options, "key")?;
+    let key = match text_if_given(alloc, options, "key")? {
+        Some(key) => key,
+        None => String::new(alloc),
+    };
     Ok(LogKeyTexts { key, other_key })
 }
 
@@ -199,14 +208,35 @@ pub(super) fn fetch_options(
     })
 }
 
-// Returns the job of `fetch`: one of the four requests is given, and no more cosignatures are needed than there are
-// witnesses.
+// Reports whether keys are given, or what belongs to them.
+fn has_keys(options: &ArgMatches<'_>) -> bool {
+    let texts = count_given(options, "key") + count_given(options, "witness");
+    texts > 0 || options.get_one::<u64>("need").is_some()
+}
+
+// Returns the message if it isn't said who is trusted, or twice, or if the keys don't go together.
+fn trust_refusal(options: &ArgMatches<'_>) -> Option<&'static str> {
+    if is_given(options, "policy") {
+        return has_keys(options).then_some(ONE_TRUST);
+    }
+    if count_given(options, "key") == 0 {
+        return Some(ONE_TRUST);
+    }
+    log_refusal(options)
+}
+
+// Returns the job of `fetch`: one of the four requests is given, and keys of which no more are needed than there are,
+// or a policy.
 pub(super) fn fetch_job(alloc: Global, options: &ArgMatches<'_>) -> Result<Job, WordsFault> {
     let Some(wanted) = wanted_if_one(options) else {
         return Err(usage_error(alloc, fetch(), ONE_WANTED));
     };
-    if let Some(why) = log_refusal(options) {
+    if let Some(why) = trust_refusal(options) {
         return Err(usage_error(alloc, fetch(), why));
     }
-    Ok(Job::Fetch(fetch_options(alloc, options, wanted)?))
+    let fetch = fetch_options(alloc, options, wanted)?;
+    match text_if_given(alloc, options, "policy")? {
+        Some(policy) => Ok(Job::FetchBy(PolicyFetchOptions { policy, fetch })),
+        None => Ok(Job::Fetch(fetch)),
+    }
 }

@@ -230,17 +230,19 @@ another root than the smaller one's. An older checkpoint accuses nobody: nothing
 is printed, and the state stays.
 
 --key is given twice while the log goes from one key to another. Keys of
-witnesses with one name are one witness's, which counts once. With --fresh a
-checkpoint is refused if no --witness cosigned it in the last so many seconds:
-so a log that is held back is told from one that rests.
+witnesses with one name are one witness's, which counts once. --policy stands in
+their place: the log is the first of the policy whose URL is --from, or else the
+first of all, and the witnesses that cosigned have to satisfy the quorum. With
+--fresh a checkpoint is refused if no witness cosigned it in the last so many
+seconds: so a log that is held back is told from one that rests.
 
-Exit status: 0 done; 1 refused (a bad key, a second key that isn't another one
-of the log, a witness with the key of another or of the log, a bad address, no
-checkpoint that opens, checkpoint of another log, cosigned by N witnesses, no
-entry at the index, a tile, a bundle or an entry wrong, bad state, out of
-memory); 2 wrong arguments or a call for help; 3 not available, an older
-checkpoint, one not cosigned since a time, or a read or a write failed; 4 the
-log forked.
+Exit status: 0 done; 1 refused (a bad policy, a bad key, a second key that isn't
+another one of the log, a witness with the key of another or of the log, a bad
+address, no checkpoint that opens, checkpoint of another log, cosigned by N
+witnesses, or by N, K wanted, no entry at the index, a tile, a bundle or an
+entry wrong, bad state, out of memory); 2 wrong arguments or a call for help; 3
+not available, an older checkpoint, one not cosigned since a time, or a read or
+a write failed; 4 the log forked.
 
 Example: tlog fetch --from http://example.com/log --key @key.pub \\
              --state seen --all";

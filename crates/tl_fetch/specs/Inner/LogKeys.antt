@@ -1,5 +1,5 @@
 -- The keys of one log, as they are read and boxed.
-use Rattle.std.specs.Prelude.{◌≡◌, ◌≢◌, ◌⊎◌, ◌∷◌, [], List, Option, None, Some, map}
+use Rattle.std.specs.Prelude.{◌≡◌, ◌≢◌, ◌⊎◌, List, map}
 use Rattle.tl_hash.specs.Bytes.{Bytes}
 use Rattle.tl_key.specs.NoteKey.{PublicKey, verifier_key}
 use Rattle.tl_note.specs.Key.{Key}
@@ -14,11 +14,6 @@ pub record AreTwo (key other : PublicKey) : Type 0 where
 -- the second key has another name, or the public key of the first
 abbrev pub AreNotTwo : PublicKey → PublicKey → Type 0
 AreNotTwo key other = (other.name ≢ key.name) ⊎ (other.key ≡ key.key)
-
--- one key, or two
-abbrev pub keys_of : PublicKey → Option PublicKey → List PublicKey
-keys_of key None = key ∷ []
-keys_of key (Some other) = key ∷ other ∷ []
 
 -- the keys of the log of this name that the options name, of which no witness has a public key
 pub record AreTold (options : FetchOptions) (name : Bytes) (keys : List PublicKey) : Type 0 where

@@ -1,7 +1,7 @@
 //! Asks a policy's witnesses about a log's checkpoint.
 
 ghost use Rattle.std.specs.Prelude.{map};
-ghost use Rattle.tl_fetch.specs.Trusting.{IsNoteOf, alone, policy_of};
+ghost use Rattle.tl_fetch.specs.Trusting.{IsNoteOf, alone, policy_in};
 
 use crate::policy::Policy;
 use std::alloc::Global;
@@ -45,8 +45,7 @@ fn line_at<S: ResourceSource, Q: AsksWitnesses>(
     place: usize,
 ) -> Result<String, Unasked>
     requires { IsNoteOf (alone
-        (policy_of policy.now.origin.now (map (λ v. key v) policy.now.log.now)
-        (map (λ w. key w) policy.now.witnesses.now) policy.now.need policy.now.since))
+        (policy_in (λ v. key v) policy.now))
         note.now head.now }
 {
     let Some(mut asker) = witnesses.asker(place) else {
@@ -76,8 +75,7 @@ pub(crate) fn line_by<S: ResourceSource, Q: AsksWitnesses>(
     place: usize,
 ) -> Option<String>
     requires { IsNoteOf (alone
-        (policy_of policy.now.origin.now (map (λ v. key v) policy.now.log.now)
-        (map (λ w. key w) policy.now.witnesses.now) policy.now.need policy.now.since))
+        (policy_in (λ v. key v) policy.now))
         note.now head.now }
 {
     match line_at(

@@ -2,11 +2,11 @@
 
 ghost use Rattle.std.specs.Prelude.{◌≡◌, map};
 ghost use Rattle.tl_device.specs.Device.{passage};
-ghost use Rattle.tl_fetch.specs.Command.{IsSinceOf};
+ghost use Rattle.tl_fetch.specs.Command.{IsSinceOf, keys_of};
 ghost use Rattle.tl_fetch.specs.FeedCommand.{RunsFeed, RunsFeedUnder};
 ghost use Rattle.tl_fetch.specs.Inner.FeedRuns.{FeedsOver};
-ghost use Rattle.tl_fetch.specs.Inner.LogKeys.{AreTold, ToldBy, keys_of};
-ghost use Rattle.tl_fetch.specs.Trusting.{policy_of};
+ghost use Rattle.tl_fetch.specs.Inner.LogKeys.{AreTold, ToldBy};
+ghost use Rattle.tl_fetch.specs.Trusting.{policy_in};
 
 use crate::command::{source_of, with_lack};
 use crate::fault::FetchFault;
@@ -54,8 +54,7 @@ fn feed_with_state<H: Files<File = File>, S: ResourceSource, Q: AsksWitnesses, W
     writer: &mut Counted<W>,
 ) -> Result<(), FetchFault>
     ensures { FeedsOver (S.may_answer source.now) (S.may_lack source.now)
-        (policy_of policy.now.origin.now (map (λ v. key v) policy.now.log.now)
-        (map (λ w. key w) policy.now.witnesses.now) policy.now.need policy.now.since) options.now
+        (policy_in (λ v. key v) policy.now) options.now
         (passage W.contents writer.old writer.new) result }
 {
     let mut nobody = Nobody;
@@ -102,8 +101,7 @@ fn feed_as_asked<'s, H: Files<File = File> + Net<Stream = TcpStream> + Clock, W:
     writer: &mut Counted<W>,
     errors: &'s mut Counted<E>,
 ) -> Result<(), FetchFault>
-    ensures { RunsFeedUnder (policy_of policy.now.origin.now (map (λ v. key v) policy.now.log.now)
-        (map (λ w. key w) policy.now.witnesses.now) policy.now.need policy.now.since) options.now
+    ensures { RunsFeedUnder (policy_in (λ v. key v) policy.now) options.now
         (passage W.contents writer.old writer.new) result }
 {
     let urls = match addresses(alloc, options.to.as_slice()) {
@@ -139,6 +137,7 @@ fn feed_as_told<'s, H: Files<File = File> + Net<Stream = TcpStream> + Clock, W: 
     requires told { ToldBy options.now.log policy.now.origin.now (map (λ v. key v) policy.now.log.now) }
     requires need { policy.now.need ≡ options.now.log.need }
     requires since { IsSinceOf options.now.log.fresh policy.now.since }
+    requires no_text { policy.now.under ≡ None }
     ensures { RunsFeed options.now (passage W.contents writer.old writer.new) result }
 {
     match feed_as_asked(rt, alloc, policy, options, writer, errors) {
@@ -176,6 +175,7 @@ fn feed_by<'s, H: Files<File = File> + Net<Stream = TcpStream> + Clock, W: Write
             witnesses,
             need,
             since,
+            under: None,
         };
         return feed_as_told(rt, alloc, &policy, options, writer, errors);
     };
@@ -186,6 +186,7 @@ fn feed_by<'s, H: Files<File = File> + Net<Stream = TcpStream> + Clock, W: Write
         witnesses,
         need,
         since,
+        under: None,
     };
     feed_as_told(rt, alloc, &policy, options, writer, errors)
 }

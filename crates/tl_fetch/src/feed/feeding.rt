@@ -10,7 +10,7 @@ ghost use Rattle.tl_fetch.specs.Inner.Judging.{two_of};
 ghost use Rattle.tl_fetch.specs.Inner.Witnesses.{AreOfOne, IsOfAnother};
 ghost use Rattle.tl_fetch.specs.Printed.{PrintedWhole};
 ghost use Rattle.tl_tile.specs.declared.resource.Resource.TheVariants.{Checkpoint};
-ghost use Rattle.tl_fetch.specs.Trusting.{AreTwo, IsGrown, IsKnown, IsNoteOf, Two, alone, policy_of};
+ghost use Rattle.tl_fetch.specs.Trusting.{AreTwo, IsGrown, IsKnown, IsNoteOf, Two, alone, policy_in};
 
 use crate::fault::FetchFault;
 use crate::faults::BAD_CHECKPOINT;
@@ -61,8 +61,7 @@ fn with_lines<S: ResourceSource, Q: AsksWitnesses>(
     asker: &mut Q,
 ) -> Result<String, AllocError>
     requires { IsNoteOf (alone
-        (policy_of policy.now.origin.now (map (λ v. key v) policy.now.log.now)
-        (map (λ w. key w) policy.now.witnesses.now) policy.now.need policy.now.since))
+        (policy_in (λ v. key v) policy.now))
         note.now head.now }
     ensures { IfOk result (λ text. (lines : Bytes) × (string_bytes text ≡ note.now ++ lines)) }
 {
@@ -92,16 +91,13 @@ fn cosigned<S: ResourceSource, Q: AsksWitnesses>(
     asker: &mut Q,
 ) -> Result<String, FetchFault>
     requires { IsNoteOf (alone
-        (policy_of policy.now.origin.now (map (λ v. key v) policy.now.log.now)
-        (map (λ w. key w) policy.now.witnesses.now) policy.now.need policy.now.since))
+        (policy_in (λ v. key v) policy.now))
         note.now head.now }
     ensures fed { IfOk result (λ text. IsFedNote
-        (policy_of policy.now.origin.now (map (λ v. key v) policy.now.log.now)
-        (map (λ w. key w) policy.now.witnesses.now) policy.now.need policy.now.since)
+        (policy_in (λ v. key v) policy.now)
         note.now head.now (string_bytes text)) }
     ensures unfed { IfErr result (IsUnfed
-        (policy_of policy.now.origin.now (map (λ v. key v) policy.now.log.now)
-        (map (λ w. key w) policy.now.witnesses.now) policy.now.need policy.now.since) note.now) }
+        (policy_in (λ v. key v) policy.now) note.now) }
     ensures fair { IfErr result IsNoAccusation }
 {
     let text = with_lines(alloc, source, policy, note, head, known, asker)?;
@@ -126,28 +122,22 @@ fn keep_and_feed<S: ResourceSource, K: TrustStore, Q: AsksWitnesses, W: Write>(
     asker: &mut Q,
     writer: &mut Counted<W>,
 ) -> Result<(), FetchFault>
-    requires log { policy_of log.now.origin.now (map (λ v. key v) log.now.log.now)
-        (map (λ w. key w) log.now.witnesses.now) log.now.need log.now.since
-        ≡ alone (policy_of policy.now.origin.now (map (λ v. key v) policy.now.log.now)
-        (map (λ w. key w) policy.now.witnesses.now) policy.now.need policy.now.since) }
+    requires log { policy_in (λ v. key v) log.now
+        ≡ alone (policy_in (λ v. key v) policy.now) }
     requires had { K.may_have state.old (option_map (λ s. s.now) step.now.last) }
-    requires known { IsKnown (policy_of log.now.origin.now (map (λ v. key v) log.now.log.now)
-        (map (λ w. key w) log.now.witnesses.now) log.now.need log.now.since)
+    requires known { IsKnown (policy_in (λ v. key v) log.now)
         (option_map (λ s. s.now) step.now.last) step.now.old.now }
-    requires trusted { IsNoteOf (policy_of log.now.origin.now (map (λ v. key v) log.now.log.now)
-        (map (λ w. key w) log.now.witnesses.now) log.now.need log.now.since)
+    requires trusted { IsNoteOf (policy_in (λ v. key v) log.now)
         step.now.note.now step.now.new.now }
     requires grown { IsGrown step.now.old.now step.now.new.now }
     ensures kept { OnOk result (K.has_kept state.new step.now.note.now) }
     ensures printed { OnOk result (PrintedWhole (IsFedNote
-        (policy_of policy.now.origin.now (map (λ v. key v) policy.now.log.now)
-        (map (λ w. key w) policy.now.witnesses.now) policy.now.need policy.now.since)
+        (policy_in (λ v. key v) policy.now)
         step.now.note.now step.now.new.now) (passage W.contents writer.old writer.new)) }
     ensures refused { IfErr result (λ fault. RefusesFed
         (grounds_of (S.may_answer source.now) (S.may_lack source.now) (K.may_have state.old)
         (K.may_fail state.old) (state.new ≡ state.old) (K.has_kept state.new))
-        (policy_of policy.now.origin.now (map (λ v. key v) policy.now.log.now)
-        (map (λ w. key w) policy.now.witnesses.now) policy.now.need policy.now.since)
+        (policy_in (λ v. key v) policy.now)
         (two_of (option_map (λ s. s.now) step.now.last) step.now.old.now step.now.note.now
         step.now.new.now) fault (passage W.contents writer.old writer.new)) }
 {
@@ -180,17 +170,14 @@ pub fn feed_under<S: ResourceSource, K: TrustStore, O: Observer, Q: AsksWitnesse
     writer: &mut Counted<W>,
 ) -> Result<(), FetchFault>
     ensures fed { OnOk result ((two : Two) × AreTwo (K.may_have state.old)
-        (S.may_answer source.now Checkpoint) (alone (policy_of policy.now.origin.now (map (λ v. key v) policy.now.log.now)
-        (map (λ w. key w) policy.now.witnesses.now) policy.now.need policy.now.since)) two
+        (S.may_answer source.now Checkpoint) (alone (policy_in (λ v. key v) policy.now)) two
         × HasFed (K.has_kept state.new)
-        (policy_of policy.now.origin.now (map (λ v. key v) policy.now.log.now)
-        (map (λ w. key w) policy.now.witnesses.now) policy.now.need policy.now.since) two
+        (policy_in (λ v. key v) policy.now) two
         (passage W.contents writer.old writer.new)) }
     ensures refused { IfErr result (λ fault. RefusesFeed
         (grounds_of (S.may_answer source.now) (S.may_lack source.now) (K.may_have state.old)
         (K.may_fail state.old) (state.new ≡ state.old) (K.has_kept state.new))
-        (policy_of policy.now.origin.now (map (λ v. key v) policy.now.log.now)
-        (map (λ w. key w) policy.now.witnesses.now) policy.now.need policy.now.since) fault
+        (policy_in (λ v. key v) policy.now) fault
         (passage W.contents writer.old writer.new)) }
 {
     let log = Policy {
@@ -199,6 +186,7 @@ pub fn feed_under<S: ResourceSource, K: TrustStore, O: Observer, Q: AsksWitnesse
         witnesses: &[],
         need: 0,
         since: None,
+        under: None,
     };
     let (last, now) = match trusted_two(alloc, source, &log, state) {
         Ok(both) => both,

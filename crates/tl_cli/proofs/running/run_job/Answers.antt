@@ -26,6 +26,10 @@ pub returns-in-Fetch : goal.returns-in-Fetch
 returns-in-Fetch g c = rw c.in-Fetch.is
     ((c.run_fetch.result, c.run_fetch.ensures, c.after_fetch.ensures), (Keeps-refl (g.R.Read.remaining c.args.reader.now.device), refl))
 
+pub returns-in-FetchBy : goal.returns-in-FetchBy
+returns-in-FetchBy g c = rw c.in-FetchBy.is
+    ((c.run_fetch_by.result, c.run_fetch_by.ensures, c.after_prove.ensures), (Keeps-refl (g.R.Read.remaining c.args.reader.now.device), refl))
+
 pub returns-in-Feed : goal.returns-in-Feed
 returns-in-Feed g c = rw c.in-Feed.is
     ((c.run_feed.result, c.run_feed.ensures, c.after_fetch-in-Feed.ensures), (Keeps-refl (g.R.Read.remaining c.args.reader.now.device), refl))
@@ -58,7 +62,7 @@ returns-in-Open g c = rw c.in-Open.is (
 )
 
 pub returns-in-Verify : goal.returns-in-Verify
-returns-in-Verify g c = rw c.in-Verify.is ((c.run_verify.result, c.run_verify.ensures, c.after_prove.ensures), (Keeps-refl (g.E.Write.contents c.args.errors.now.device), refl))
+returns-in-Verify g c = rw c.in-Verify.is ((c.run_verify.result, c.run_verify.ensures, c.after_prove-in-Verify.ensures), (Keeps-refl (g.E.Write.contents c.args.errors.now.device), refl))
 
 pub returns-in-Prove : goal.returns-in-Prove
 returns-in-Prove g c = rw c.in-Prove.is (
