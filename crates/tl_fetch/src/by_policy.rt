@@ -105,7 +105,8 @@ fn twin_of(
 
 // Returns the keys of the log that is fetched from here.
 fn keys_by(alloc: Global, text: &Text<'_, Global>, from: &str) -> Result<LogKeys, FetchFault>
-    ensures read { IfOk result (λ keys. AreKeysBy (terms_of text.now) from.now keys.key keys.other) }
+    ensures read { IfOk result
+        (λ keys. AreKeysBy (terms_of text.now) from.now keys.key keys.other) }
     ensures refused { IfErr result (NamesNone (terms_of text.now) from.now) }
 {
     let logs = text.logs.as_slice();
@@ -128,7 +129,8 @@ fn fetch_as_said<'s, H: Files<File = File> + HostClient, W: Write, E: Write>(
     is_terminal: bool,
 ) -> Result<(), FetchFault>
     requires { IsPolicyBy (terms_of text.now) options.now (policy_in (λ v. key v) policy.now) }
-    ensures { FetchesBy (terms_of text.now) options.now (passage W.contents writer.old writer.new) result }
+    ensures { FetchesBy (terms_of text.now) options.now
+        (passage W.contents writer.old writer.new) result }
 {
     match fetch_as_asked(rt, alloc, policy, options, writer, errors, is_terminal) {
         Ok(()) => Ok(()),
@@ -148,7 +150,8 @@ fn fetch_with_keys<'s, H: Files<File = File> + HostClient, W: Write, E: Write>(
     is_terminal: bool,
 ) -> Result<(), FetchFault>
     requires { AreKeysBy (terms_of text.now) (string_bytes options.now.from) keys.key keys.other }
-    ensures { FetchesBy (terms_of text.now) options.now (passage W.contents writer.old writer.new) result }
+    ensures { FetchesBy (terms_of text.now) options.now
+        (passage W.contents writer.old writer.new) result }
 {
     let origin = String::from_str(alloc, keys.key.name())?;
     let origin = origin.as_str();
@@ -222,7 +225,8 @@ pub fn fetch_by_policy<
     errors: &'s mut Counted<E>,
     is_terminal: bool,
 ) -> Result<(), FetchFault>
-    ensures { FetchesBy (terms_of text.now) options.now (passage W.contents writer.old writer.new) result }
+    ensures { FetchesBy (terms_of text.now) options.now
+        (passage W.contents writer.old writer.new) result }
 {
     let keys = keys_by(alloc, text, options.from.as_str())?;
     fetch_with_keys(rt, alloc, text, keys, options, writer, errors, is_terminal)

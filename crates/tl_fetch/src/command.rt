@@ -89,8 +89,8 @@ fn fetch_beside<
     writer: &mut Counted<W>,
 ) -> Result<(), FetchFault>
     ensures { RunsWith (S.may_answer source.now) (S.may_lack source.now) (λ note. Unit {0})
-        IsStateFault (policy_in (λ v. key v) policy.now)
-        FetchRequest.All (passage W.contents writer.old writer.new) result }
+        IsStateFault (policy_in (λ v. key v) policy.now) FetchRequest.All
+        (passage W.contents writer.old writer.new) result }
 {
     let wanted = FetchRequest::All;
     let beside = printed_path(alloc, path)?;
@@ -171,8 +171,8 @@ fn fetch_with_state<
     writer: &mut Counted<W>,
 ) -> Result<(), FetchFault>
     ensures { RunsOver (S.may_answer source.now) (S.may_lack source.now)
-        (policy_in (λ v. key v) policy.now) options.now
-        (passage W.contents writer.old writer.new) result }
+        (policy_in (λ v. key v) policy.now) options.now (passage W.contents writer.old writer.new)
+        result }
 {
     let wanted = options.wanted;
     let requests = Requests {
@@ -243,9 +243,8 @@ fn fetch_through<
     is_terminal: bool,
 ) -> Result<(), FetchFault>
     ensures { RunsOver (cached_answers options.now.cache (S.may_answer source.now))
-        (cached_lacks options.now.cache (S.may_lack source.now))
-        (policy_in (λ v. key v) policy.now) options.now
-        (passage W.contents writer.old writer.new) result }
+        (cached_lacks options.now.cache (S.may_lack source.now)) (policy_in (λ v. key v) policy.now)
+        options.now (passage W.contents writer.old writer.new) result }
 {
     let mut progress = Progress::new(alloc, errors, is_terminal);
     let Some(folder) = &options.cache else {

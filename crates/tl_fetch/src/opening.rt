@@ -1,6 +1,6 @@
 //! Opens the checkpoints that are trusted: the state's, and the source's.
 
-ghost use Rattle.std.specs.Prelude.{◌≡◌, IfErr, IfOk, map, option_map, string_bytes};
+ghost use Rattle.std.specs.Prelude.{◌≡◌, IfErr, IfOk, option_map, string_bytes};
 ghost use Rattle.tl_tile.specs.declared.resource.Resource.TheVariants.{Checkpoint};
 ghost use Rattle.tl_fetch.specs.Faults.{IsNoAccusation};
 ghost use Rattle.tl_fetch.specs.Fetching.{LacksLast, LacksTrust, unseen_of};
@@ -40,14 +40,13 @@ fn read_note<S: ResourceSource>(alloc: Global, source: &S) -> Result<String, Fet
 }
 
 /// Returns the size and the root of a log by a trusted note: it opens under the log's keys, its text is a checkpoint
-/// (C2SP tlog-checkpoint) that enough of the witnesses cosigned (C2SP tlog-cosignature) and that names the log, and
-/// one of the witnesses cosigned it lately enough, if the policy asks for that. The text of a policy, if there is one,
-/// has to trust it, too. It fails with `OtherLog` if the checkpoint names another log, with `Untrusted` if the text
-/// doesn't trust it, and with `Stale` if each cosignature by a witness is of an earlier time.
+/// (C2SP tlog-checkpoint) of the log, enough of the witnesses cosigned it (C2SP tlog-cosignature), lately enough if
+/// the policy asks for that, and its text trusts it, if it has one (C2SP tlog-policy). It fails with `OtherLog` if the
+/// checkpoint names another log, with `Stale` if each cosignature by a witness is of an earlier time, and with
+/// `Untrusted` if the text doesn't trust it.
 pub fn open_trusted(alloc: Global, policy: &Policy<'_>, note: &str) -> Result<Head, FetchFault>
-    ensures trusted { IfOk result
-        (λ head. IsNoteOf (policy_in (λ v. key v) policy.now)
-        note.now head) }
+    ensures trusted { IfOk result (λ head. IsNoteOf (policy_in (λ v. key v) policy.now) note.now
+        head) }
     ensures fair { IfErr result IsNoAccusation }
     ensures refused { IfErr result (RefusesNote (policy_in (λ v. key v) policy.now) note.now) }
 {
@@ -89,9 +88,11 @@ pub fn trusted_head(
     policy: &Policy<'_>,
     last: Option<&str>,
 ) -> Result<Head, FetchFault>
-    ensures known { IfOk result (λ head. IsKnown (policy_in (λ v. key v) policy.now) (option_map (λ s. s.now) last.entry) head) }
+    ensures known { IfOk result (λ head. IsKnown (policy_in (λ v. key v) policy.now)
+        (option_map (λ s. s.now) last.entry) head) }
     ensures fair { IfErr result IsNoAccusation }
-    ensures refused { IfErr result (RefusesState (policy_in (λ v. key v) policy.now) (option_map (λ s. s.now) last.entry)) }
+    ensures refused { IfErr result (RefusesState (policy_in (λ v. key v) policy.now)
+        (option_map (λ s. s.now) last.entry)) }
 {
     let Some(note) = last else {
         return Ok(Head {
@@ -127,7 +128,8 @@ pub(crate) fn trusted_last<K: TrustStore>(
     state: &K,
 ) -> Result<Trusted<Option<String>>, FetchFault>
     ensures had { IfOk result (λ t. K.may_have state.now (option_map string_bytes t.note)) }
-    ensures known { IfOk result (λ t. IsKnown (policy_in (λ v. key v) policy.now) (option_map string_bytes t.note) t.head) }
+    ensures known { IfOk result (λ t. IsKnown (policy_in (λ v. key v) policy.now)
+        (option_map string_bytes t.note) t.head) }
     ensures fair { IfErr result IsNoAccusation }
     ensures refused { IfErr result (LacksLast (K.may_fail state.now) (K.may_have state.now)
         (policy_in (λ v. key v) policy.now)) }
@@ -150,8 +152,7 @@ fn trusted_now<S: ResourceSource>(
 ) -> Result<Trusted<String>, FetchFault>
     ensures answered { IfOk result
         (λ t. S.may_answer source.now Checkpoint (string_bytes t.note)) }
-    ensures trusted { IfOk result
-        (λ t. IsNoteOf (policy_in (λ v. key v) policy.now)
+    ensures trusted { IfOk result (λ t. IsNoteOf (policy_in (λ v. key v) policy.now)
         (string_bytes t.note) t.head) }
     ensures fair { IfErr result IsNoAccusation }
     ensures refused { IfErr result (RefusesCheckpoint (S.may_answer source.now)
@@ -175,15 +176,16 @@ pub(crate) fn trusted_two<S: ResourceSource, K: TrustStore>(
     state: &K,
 ) -> Result<(Trusted<Option<String>>, Trusted<String>), FetchFault>
     ensures had { IfOk result (λ t. K.may_have state.now (option_map string_bytes t.0.note)) }
-    ensures known { IfOk result (λ t. IsKnown (policy_in (λ v. key v) policy.now) (option_map string_bytes t.0.note) t.0.head) }
+    ensures known { IfOk result (λ t. IsKnown (policy_in (λ v. key v) policy.now)
+        (option_map string_bytes t.0.note) t.0.head) }
     ensures answered { IfOk result
         (λ t. S.may_answer source.now Checkpoint (string_bytes t.1.note)) }
-    ensures trusted { IfOk result (λ t. IsNoteOf
-        (policy_in (λ v. key v) policy.now)
+    ensures trusted { IfOk result (λ t. IsNoteOf (policy_in (λ v. key v) policy.now)
         (string_bytes t.1.note) t.1.head) }
     ensures fair { IfErr result IsNoAccusation }
     ensures refused { IfErr result (LacksTrust (unseen_of (S.may_answer source.now)
-        (S.may_lack source.now) (K.may_have state.now) (K.may_fail state.now)) (policy_in (λ v. key v) policy.now)) }
+        (S.may_lack source.now) (K.may_have state.now) (K.may_fail state.now))
+        (policy_in (λ v. key v) policy.now)) }
 {
     let last = match trusted_last(alloc, policy, state) {
         Ok(last) => last,

@@ -1,6 +1,6 @@
 //! Fetches from any source, with any store for the state.
 
-ghost use Rattle.std.specs.Prelude.{◌≡◌, ◌≢◌, IfErr, OnErr, OnOk, map, option_map, string_bytes};
+ghost use Rattle.std.specs.Prelude.{◌≡◌, ◌≢◌, IfErr, OnErr, OnOk, option_map, string_bytes};
 ghost use Rattle.tl_device.specs.Device.{IsUnwritten, passage};
 ghost use Rattle.tl_fetch.specs.Entries.{AreLinesBetween};
 ghost use Rattle.tl_fetch.specs.Faults.{IsNoAccusation};
@@ -83,17 +83,15 @@ fn keep_and_print<
     requires had { K.may_have state.old (option_map (λ s. s.now) step.now.last) }
     requires known { IsKnown (policy_in (λ v. key v) policy.now)
         (option_map (λ s. s.now) step.now.last) step.now.old.now }
-    requires trusted { IsNoteOf
-        (policy_in (λ v. key v) policy.now)
-        step.now.note.now step.now.new.now }
+    requires trusted { IsNoteOf (policy_in (λ v. key v) policy.now) step.now.note.now
+        step.now.new.now }
     requires grown { IsGrown step.now.old.now step.now.new.now }
     ensures printed { OnOk result (PrintedWhole (IsWanted policy.now.origin.now
         step.now.old.now.size step.now.new.now wanted) (passage W.contents writer.old writer.new)) }
     ensures kept { OnOk result (K.has_kept state.new step.now.note.now) }
-    ensures refused { IfErr result (λ fault. FailsGrown
-        (grounds_of (S.may_answer source.now) (S.may_lack source.now) (K.may_have state.old)
-        (K.may_fail state.old) (state.new ≡ state.old) (K.has_kept state.new))
-        (policy_in (λ v. key v) policy.now) wanted
+    ensures refused { IfErr result (λ fault. FailsGrown (grounds_of (S.may_answer source.now)
+        (S.may_lack source.now) (K.may_have state.old) (K.may_fail state.old)
+        (state.new ≡ state.old) (K.has_kept state.new)) (policy_in (λ v. key v) policy.now) wanted
         (two_of (option_map (λ s. s.now) step.now.last) step.now.old.now step.now.note.now
         step.now.new.now) fault (passage W.contents writer.old writer.new)) }
 {
@@ -137,9 +135,8 @@ fn print_and_keep<
     requires had { K.may_have state.old (option_map (λ s. s.now) step.now.last) }
     requires known { IsKnown (policy_in (λ v. key v) policy.now)
         (option_map (λ s. s.now) step.now.last) step.now.old.now }
-    requires trusted { IsNoteOf
-        (policy_in (λ v. key v) policy.now)
-        step.now.note.now step.now.new.now }
+    requires trusted { IsNoteOf (policy_in (λ v. key v) policy.now) step.now.note.now
+        step.now.new.now }
     requires grown { IsGrown step.now.old.now step.now.new.now }
     requires had_marked { C.may_have printed.old (option_map (λ s. s.now) since.now.last) }
     requires marked { IsKnown (policy_in (λ v. key v) policy.now)
@@ -149,13 +146,12 @@ fn print_and_keep<
         from step.now.new.now.size) (passage W.contents writer.old writer.new)) }
     ensures kept { OnOk result (K.has_kept state.new step.now.note.now) }
     ensures marked { OnOk result (C.has_kept printed.new step.now.note.now) }
-    ensures refused { IfErr result (λ fault. FailsAll
-        (grounds_of (S.may_answer source.now) (S.may_lack source.now) (K.may_have state.old)
-        (K.may_fail state.old) (state.new ≡ state.old) (K.has_kept state.new))
-        (grounds_of (S.may_answer source.now) (S.may_lack source.now) (C.may_have printed.old)
-        (C.may_fail printed.old) (printed.new ≡ printed.old) (C.has_kept printed.new))
-        (policy_in (λ v. key v) policy.now) from
-        (two_of (option_map (λ s. s.now) step.now.last) step.now.old.now step.now.note.now
+    ensures refused { IfErr result (λ fault. FailsAll (grounds_of (S.may_answer source.now)
+        (S.may_lack source.now) (K.may_have state.old) (K.may_fail state.old)
+        (state.new ≡ state.old) (K.has_kept state.new)) (grounds_of (S.may_answer source.now)
+        (S.may_lack source.now) (C.may_have printed.old) (C.may_fail printed.old)
+        (printed.new ≡ printed.old) (C.has_kept printed.new)) (policy_in (λ v. key v) policy.now)
+        from (two_of (option_map (λ s. s.now) step.now.last) step.now.old.now step.now.note.now
         step.now.new.now) fault (passage W.contents writer.old writer.new)) }
 {
     let note = step.note;
@@ -174,7 +170,8 @@ fn print_and_keep<
 // Returns the index from which on all entries are printed: behind those that were printed, or else behind those that
 // were known.
 fn first_of(mark: &Trusted<Option<String>>, known: &Head) -> u64
-    ensures { result ≡ first_wanted (option_map string_bytes mark.now.note) mark.now.head known.now }
+    ensures { result ≡ first_wanted (option_map string_bytes mark.now.note) mark.now.head
+        known.now }
 {
     match &mark.note {
         Some(_) => mark.head.size,
@@ -228,24 +225,21 @@ fn fetch_all<
     requires had { K.may_have state.old (option_map (λ s. s.now) step.now.last) }
     requires known { IsKnown (policy_in (λ v. key v) policy.now)
         (option_map (λ s. s.now) step.now.last) step.now.old.now }
-    requires trusted { IsNoteOf
-        (policy_in (λ v. key v) policy.now)
-        step.now.note.now step.now.new.now }
+    requires trusted { IsNoteOf (policy_in (λ v. key v) policy.now) step.now.note.now
+        step.now.new.now }
     requires grown { IsGrown step.now.old.now step.now.new.now }
     ensures printed { OnOk result (HasPrinted (C.may_have printed.old) (C.has_kept printed.new)
-        (policy_in (λ v. key v) policy.now) (two_of (option_map (λ s. s.now)
-        step.now.last) step.now.old.now step.now.note.now step.now.new.now) FetchRequest.All
+        (policy_in (λ v. key v) policy.now) (two_of (option_map (λ s. s.now) step.now.last)
+        step.now.old.now step.now.note.now step.now.new.now) FetchRequest.All
         (passage W.contents writer.old writer.new)) }
     ensures kept { OnOk result (K.has_kept state.new step.now.note.now) }
-    ensures refused { IfErr result (λ fault. RefusesGrown
-        (grounds_of (S.may_answer source.now) (S.may_lack source.now) (K.may_have state.old)
-        (K.may_fail state.old) (state.new ≡ state.old) (K.has_kept state.new))
-        (grounds_of (S.may_answer source.now) (S.may_lack source.now) (C.may_have printed.old)
-        (C.may_fail printed.old) (printed.new ≡ printed.old) (C.has_kept printed.new))
-        (policy_in (λ v. key v) policy.now) FetchRequest.All (two_of
-        (option_map (λ s. s.now) step.now.last) step.now.old.now step.now.note.now
-        step.now.new.now) fault
-        (passage W.contents writer.old writer.new)) }
+    ensures refused { IfErr result (λ fault. RefusesGrown (grounds_of (S.may_answer source.now)
+        (S.may_lack source.now) (K.may_have state.old) (K.may_fail state.old)
+        (state.new ≡ state.old) (K.has_kept state.new)) (grounds_of (S.may_answer source.now)
+        (S.may_lack source.now) (C.may_have printed.old) (C.may_fail printed.old)
+        (printed.new ≡ printed.old) (C.has_kept printed.new)) (policy_in (λ v. key v) policy.now)
+        FetchRequest.All (two_of (option_map (λ s. s.now) step.now.last) step.now.old.now
+        step.now.note.now step.now.new.now) fault (passage W.contents writer.old writer.new)) }
 {
     let mark = match trusted_last(alloc, policy, printed) {
         Ok(mark) => mark,
@@ -293,25 +287,22 @@ fn fetch_grown<
     requires had { K.may_have state.old (option_map (λ s. s.now) step.now.last) }
     requires known { IsKnown (policy_in (λ v. key v) policy.now)
         (option_map (λ s. s.now) step.now.last) step.now.old.now }
-    requires trusted { IsNoteOf
-        (policy_in (λ v. key v) policy.now)
-        step.now.note.now step.now.new.now }
+    requires trusted { IsNoteOf (policy_in (λ v. key v) policy.now) step.now.note.now
+        step.now.new.now }
     requires grown { IsGrown step.now.old.now step.now.new.now }
     ensures printed { OnOk result (HasPrinted (C.may_have printed.old) (C.has_kept printed.new)
-        (policy_in (λ v. key v) policy.now) (two_of (option_map (λ s. s.now)
-        step.now.last) step.now.old.now step.now.note.now step.now.new.now) wanted
+        (policy_in (λ v. key v) policy.now) (two_of (option_map (λ s. s.now) step.now.last)
+        step.now.old.now step.now.note.now step.now.new.now) wanted
         (passage W.contents writer.old writer.new)) }
     ensures kept { OnOk result (K.has_kept state.new step.now.note.now) }
     ensures unmoved { wanted ≢ FetchRequest.All → printed.new ≡ printed.old }
-    ensures refused { IfErr result (λ fault. RefusesGrown
-        (grounds_of (S.may_answer source.now) (S.may_lack source.now) (K.may_have state.old)
-        (K.may_fail state.old) (state.new ≡ state.old) (K.has_kept state.new))
-        (grounds_of (S.may_answer source.now) (S.may_lack source.now) (C.may_have printed.old)
-        (C.may_fail printed.old) (printed.new ≡ printed.old) (C.has_kept printed.new))
-        (policy_in (λ v. key v) policy.now) wanted (two_of
-        (option_map (λ s. s.now) step.now.last) step.now.old.now step.now.note.now
-        step.now.new.now) fault
-        (passage W.contents writer.old writer.new)) }
+    ensures refused { IfErr result (λ fault. RefusesGrown (grounds_of (S.may_answer source.now)
+        (S.may_lack source.now) (K.may_have state.old) (K.may_fail state.old)
+        (state.new ≡ state.old) (K.has_kept state.new)) (grounds_of (S.may_answer source.now)
+        (S.may_lack source.now) (C.may_have printed.old) (C.may_fail printed.old)
+        (printed.new ≡ printed.old) (C.has_kept printed.new)) (policy_in (λ v. key v) policy.now)
+        wanted (two_of (option_map (λ s. s.now) step.now.last) step.now.old.now step.now.note.now
+        step.now.new.now) fault (passage W.contents writer.old writer.new)) }
 {
     match wanted {
         FetchRequest::All => fetch_all(
@@ -346,19 +337,17 @@ pub fn fetch_under<
     observer: &mut O,
     writer: &mut Counted<W>,
 ) -> Result<(), FetchFault>
-    ensures fetched { OnOk result (HasFetched (S.may_answer source.now)
-        (record { may_have = K.may_have state.old; has_kept = K.has_kept state.new })
-        (record { may_have = C.may_have printed.old; has_kept = C.has_kept printed.new })
-        (policy_in (λ v. key v) policy.now) wanted
+    ensures fetched { OnOk result (HasFetched (S.may_answer source.now) (record { may_have =
+        K.may_have state.old; has_kept = K.has_kept state.new }) (record { may_have = C.may_have
+        printed.old; has_kept = C.has_kept printed.new }) (policy_in (λ v. key v) policy.now) wanted
         (passage W.contents writer.old writer.new)) }
     ensures unmoved { wanted ≢ FetchRequest.All → printed.new ≡ printed.old }
-    ensures refused { IfErr result (λ fault. RefusesFetch
-        (grounds_of (S.may_answer source.now) (S.may_lack source.now) (K.may_have state.old)
-        (K.may_fail state.old) (state.new ≡ state.old) (K.has_kept state.new))
-        (grounds_of (S.may_answer source.now) (S.may_lack source.now) (C.may_have printed.old)
-        (C.may_fail printed.old) (printed.new ≡ printed.old) (C.has_kept printed.new))
-        (policy_in (λ v. key v) policy.now) wanted fault
-        (passage W.contents writer.old writer.new)) }
+    ensures refused { IfErr result (λ fault. RefusesFetch (grounds_of (S.may_answer source.now)
+        (S.may_lack source.now) (K.may_have state.old) (K.may_fail state.old)
+        (state.new ≡ state.old) (K.has_kept state.new)) (grounds_of (S.may_answer source.now)
+        (S.may_lack source.now) (C.may_have printed.old) (C.may_fail printed.old)
+        (printed.new ≡ printed.old) (C.has_kept printed.new)) (policy_in (λ v. key v) policy.now)
+        wanted fault (passage W.contents writer.old writer.new)) }
 {
     let (last, now) = match trusted_two(alloc, source, policy, state) {
         Ok(both) => both,

@@ -36,8 +36,8 @@ pub trait TrustStore {
         note: &str,
     ) -> Result<(), FetchFault>
         requires had { may_have self.old (option_map (λ s. s.now) last) }
-        requires next { IsNext (policy_in (λ v. key v) policy.now)
-            (option_map (λ s. s.now) last) note.now }
+        requires next { IsNext (policy_in (λ v. key v) policy.now) (option_map (λ s. s.now) last)
+            note.now }
         ensures kept { OnOk result (has_kept self.new note.now) }
         ensures refused { IfErr result (may_fail self.old) }
         ensures fair { IfErr result IsNoAccusation };

@@ -1,6 +1,6 @@
 //! The witnesses' keys that the options name.
 
-ghost use Rattle.std.specs.Prelude.{◌≡◌, ◌<◌, ◌↔◌, List, Contains, IfErr, IfOk, IsTrue, MatchBool, MatchOption, OnOk, length, string_bytes, vec_items};
+ghost use Rattle.std.specs.Prelude.{◌≡◌, ◌<◌, ◌↔◌, List, Contains, IfErr, IfOk, IsTrue, MatchBool, MatchOption, OnOk, length, vec_items};
 ghost use Rattle.tl_fetch.specs.Command.{HaveLogKeys, HaveOwnKeys, IsKeyFault, log_texts, public_keys, witness_text, witness_texts};
 ghost use Rattle.tl_key.specs.KeyText.{IsVerifierText};
 ghost use Rattle.tl_hash.specs.Bytes.{Bytes};

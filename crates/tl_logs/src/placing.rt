@@ -3,7 +3,7 @@
 ghost use Rattle.std.specs.Prelude.{◌≡◌, ◌↔◌, ◌∷◌, [], IfOk, IsTrue, OnOk, map, string_bytes, vec_items};
 ghost use Rattle.tl_logs.specs.LogsFile.{key_name, log};
 ghost use Rattle.tl_logs.specs.ReadLogs.{logs_shown};
-ghost use Rattle.tl_logs.specs.Inner.ByOrigin.{Indexes, PutsOrigin, index_of, log_origins};
+ghost use Rattle.tl_logs.specs.Inner.ByOrigin.{Indexes, index_of, log_origins};
 ghost use Rattle.tl_logs.specs.Inner.Lines.{given_by};
 ghost use Rattle.tl_logs.specs.Inner.Placing.{AddsKey, IsOneOf, PlacesKey, TakesLine};
 

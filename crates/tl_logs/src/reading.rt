@@ -90,14 +90,10 @@ fn read_lines<A: Allocator + Copy + Send + Sync>(
 }
 
 /// Reads the file of logs. Returns the logs in the order of their first lines, each with its keys in order. A line is
-/// `KEY`, a verifier key (C2SP signed-note) whose name is the log's, or `ORIGIN KEY`. Empty lines and those that
-/// begin with `#` are skipped. `Malformed` has the first line that is none of these, `Twice` the first whose key, by
-/// name and identifier, its log already has, whichever comes first. Lines are counted from 1.
-///
-/// If the first line is `logs/v0`, the file is a list, as logs are published: a line `vkey KEY` begins a log, whose
-/// name is the key's unless a line `origin NAME` follows before the next `vkey`. All other lines are skipped. Then
-/// `Malformed` has the line that begins the first log whose key or name isn't one, and `Twice` the line that begins
-/// the first log whose key its log already has. An `origin` that no log waits for begins a log without a key.
+/// `KEY`, a verifier key (C2SP signed-note) whose name is the log's, or `ORIGIN KEY`; a file whose first line is
+/// `logs/v0` is a list, as logs are published. (docs/FORMATS.md has both.) `Malformed` has the first line that is
+/// neither, `Twice` the first whose key its log already has, whichever comes first; of a list, the line that begins
+/// the log. Lines are counted from 1.
 pub fn read_logs<A: Allocator + Copy + Send + Sync>(
     alloc: A,
     bytes: &[u8],

@@ -63,7 +63,15 @@ pub fn run_fetch_by<
         Ok(text) => text,
         Err(fault) => return Err(fault),
     };
-    match fetch_under(rt, alloc, text.as_str(), &options.fetch, writer, errors, is_terminal) {
+    match fetch_under(
+        rt,
+        alloc,
+        text.as_str(),
+        &options.fetch,
+        writer,
+        errors,
+        is_terminal,
+    ) {
         Ok(()) => Ok(()),
         Err(fault) => Err(fault),
     }

@@ -1,6 +1,6 @@
 //! The command `submit`.
 
-ghost use Rattle.std.specs.Prelude.{◌<◌, IfOk, option_map, vec_items};
+ghost use Rattle.std.specs.Prelude.{◌<◌, option_map, vec_items};
 ghost use Rattle.tl_device.specs.Device.{passage};
 ghost use Rattle.tl_policy.specs.Terms.{terms_of};
 ghost use Rattle.tl_prove.specs.Inner.Proving.{LooksAt};

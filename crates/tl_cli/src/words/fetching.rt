@@ -42,7 +42,8 @@ const FETCH: Words = Words {
                 "witness" "VKEY" Kind::Texts => WITNESS_KEY;
                 "need" "N" Kind::Number(0, u64::MAX)
                     => "How many witnesses must have cosigned (default: all)";
-                "policy" "FILE" Kind::Path => "In place of these three: a policy (C2SP tlog-policy)";
+                "policy" "FILE" Kind::Path
+                    => "In place of these three: a policy (C2SP tlog-policy)";
                 "fresh" "SECONDS" Kind::Number(0, u64::MAX)
                     => "Refuse what no witness cosigned since then";
                 "state" "FILE" Kind::Path => "The checkpoint that was trusted last";

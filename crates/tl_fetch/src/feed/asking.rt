@@ -1,6 +1,6 @@
 //! Asks a policy's witnesses about a log's checkpoint.
 
-ghost use Rattle.std.specs.Prelude.{map};
+
 ghost use Rattle.tl_fetch.specs.Trusting.{IsNoteOf, alone, policy_in};
 
 use crate::policy::Policy;
@@ -44,9 +44,7 @@ fn line_at<S: ResourceSource, Q: AsksWitnesses>(
     witnesses: &Q,
     place: usize,
 ) -> Result<String, Unasked>
-    requires { IsNoteOf (alone
-        (policy_in (λ v. key v) policy.now))
-        note.now head.now }
+    requires { IsNoteOf (alone (policy_in (λ v. key v) policy.now)) note.now head.now }
 {
     let Some(mut asker) = witnesses.asker(place) else {
         return Err(Unasked::Device(DeviceFault::NoHost));
@@ -74,9 +72,7 @@ pub(crate) fn line_by<S: ResourceSource, Q: AsksWitnesses>(
     witnesses: &mut Q,
     place: usize,
 ) -> Option<String>
-    requires { IsNoteOf (alone
-        (policy_in (λ v. key v) policy.now))
-        note.now head.now }
+    requires { IsNoteOf (alone (policy_in (λ v. key v) policy.now)) note.now head.now }
 {
     match line_at(
         alloc, source, policy, note, head, known, keys, witnesses, place,

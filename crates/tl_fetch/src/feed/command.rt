@@ -54,8 +54,8 @@ fn feed_with_state<H: Files<File = File>, S: ResourceSource, Q: AsksWitnesses, W
     writer: &mut Counted<W>,
 ) -> Result<(), FetchFault>
     ensures { FeedsOver (S.may_answer source.now) (S.may_lack source.now)
-        (policy_in (λ v. key v) policy.now) options.now
-        (passage W.contents writer.old writer.new) result }
+        (policy_in (λ v. key v) policy.now) options.now (passage W.contents writer.old writer.new)
+        result }
 {
     let mut nobody = Nobody;
     let Some(path) = &options.state else {
@@ -134,7 +134,8 @@ fn feed_as_told<'s, H: Files<File = File> + Net<Stream = TcpStream> + Clock, W: 
     writer: &mut Counted<W>,
     errors: &'s mut Counted<E>,
 ) -> Result<(), FetchFault>
-    requires told { ToldBy options.now.log policy.now.origin.now (map (λ v. key v) policy.now.log.now) }
+    requires told { ToldBy options.now.log policy.now.origin.now
+        (map (λ v. key v) policy.now.log.now) }
     requires need { policy.now.need ≡ options.now.log.need }
     requires since { IsSinceOf options.now.log.fresh policy.now.since }
     requires no_text { policy.now.under ≡ None }

@@ -1,6 +1,6 @@
 //! Brings a log's checkpoint from any source before witnesses.
 
-ghost use Rattle.std.specs.Prelude.{◌++◌, ◌≡◌, ◌⊎◌, ◌↔◌, ◌<◌, ◌≤◌, length, IfErr, IfOk, IsTrue, OnErr, OnOk, map, option_map, string_bytes};
+ghost use Rattle.std.specs.Prelude.{◌++◌, ◌≡◌, ◌⊎◌, ◌↔◌, ◌<◌, ◌≤◌, length, IfErr, IfOk, IsTrue, OnOk, map, option_map, string_bytes};
 ghost use Rattle.tl_hash.specs.Bytes.{Bytes};
 ghost use Rattle.tl_device.specs.Device.{passage};
 ghost use Rattle.tl_fetch.specs.Faults.{IsNoAccusation};
@@ -60,9 +60,7 @@ fn with_lines<S: ResourceSource, Q: AsksWitnesses>(
     known: u64,
     asker: &mut Q,
 ) -> Result<String, AllocError>
-    requires { IsNoteOf (alone
-        (policy_in (λ v. key v) policy.now))
-        note.now head.now }
+    requires { IsNoteOf (alone (policy_in (λ v. key v) policy.now)) note.now head.now }
     ensures { IfOk result (λ text. (lines : Bytes) × (string_bytes text ≡ note.now ++ lines)) }
 {
     let mut lines = String::new(alloc);
@@ -90,14 +88,10 @@ fn cosigned<S: ResourceSource, Q: AsksWitnesses>(
     known: u64,
     asker: &mut Q,
 ) -> Result<String, FetchFault>
-    requires { IsNoteOf (alone
-        (policy_in (λ v. key v) policy.now))
-        note.now head.now }
-    ensures fed { IfOk result (λ text. IsFedNote
-        (policy_in (λ v. key v) policy.now)
-        note.now head.now (string_bytes text)) }
-    ensures unfed { IfErr result (IsUnfed
-        (policy_in (λ v. key v) policy.now) note.now) }
+    requires { IsNoteOf (alone (policy_in (λ v. key v) policy.now)) note.now head.now }
+    ensures fed { IfOk result (λ text. IsFedNote (policy_in (λ v. key v) policy.now) note.now
+        head.now (string_bytes text)) }
+    ensures unfed { IfErr result (IsUnfed (policy_in (λ v. key v) policy.now) note.now) }
     ensures fair { IfErr result IsNoAccusation }
 {
     let text = with_lines(alloc, source, policy, note, head, known, asker)?;
@@ -122,24 +116,21 @@ fn keep_and_feed<S: ResourceSource, K: TrustStore, Q: AsksWitnesses, W: Write>(
     asker: &mut Q,
     writer: &mut Counted<W>,
 ) -> Result<(), FetchFault>
-    requires log { policy_in (λ v. key v) log.now
-        ≡ alone (policy_in (λ v. key v) policy.now) }
+    requires log { policy_in (λ v. key v) log.now ≡ alone (policy_in (λ v. key v) policy.now) }
     requires had { K.may_have state.old (option_map (λ s. s.now) step.now.last) }
     requires known { IsKnown (policy_in (λ v. key v) log.now)
         (option_map (λ s. s.now) step.now.last) step.now.old.now }
-    requires trusted { IsNoteOf (policy_in (λ v. key v) log.now)
-        step.now.note.now step.now.new.now }
+    requires trusted { IsNoteOf (policy_in (λ v. key v) log.now) step.now.note.now
+        step.now.new.now }
     requires grown { IsGrown step.now.old.now step.now.new.now }
     ensures kept { OnOk result (K.has_kept state.new step.now.note.now) }
-    ensures printed { OnOk result (PrintedWhole (IsFedNote
-        (policy_in (λ v. key v) policy.now)
+    ensures printed { OnOk result (PrintedWhole (IsFedNote (policy_in (λ v. key v) policy.now)
         step.now.note.now step.now.new.now) (passage W.contents writer.old writer.new)) }
-    ensures refused { IfErr result (λ fault. RefusesFed
-        (grounds_of (S.may_answer source.now) (S.may_lack source.now) (K.may_have state.old)
-        (K.may_fail state.old) (state.new ≡ state.old) (K.has_kept state.new))
-        (policy_in (λ v. key v) policy.now)
-        (two_of (option_map (λ s. s.now) step.now.last) step.now.old.now step.now.note.now
-        step.now.new.now) fault (passage W.contents writer.old writer.new)) }
+    ensures refused { IfErr result (λ fault. RefusesFed (grounds_of (S.may_answer source.now)
+        (S.may_lack source.now) (K.may_have state.old) (K.may_fail state.old)
+        (state.new ≡ state.old) (K.has_kept state.new)) (policy_in (λ v. key v) policy.now) (two_of
+        (option_map (λ s. s.now) step.now.last) step.now.old.now step.now.note.now step.now.new.now)
+        fault (passage W.contents writer.old writer.new)) }
 {
     if let Err(fault) = state.keep(log, step.last, step.note) {
         return Err(fault);
@@ -170,14 +161,12 @@ pub fn feed_under<S: ResourceSource, K: TrustStore, O: Observer, Q: AsksWitnesse
     writer: &mut Counted<W>,
 ) -> Result<(), FetchFault>
     ensures fed { OnOk result ((two : Two) × AreTwo (K.may_have state.old)
-        (S.may_answer source.now Checkpoint) (alone (policy_in (λ v. key v) policy.now)) two
-        × HasFed (K.has_kept state.new)
-        (policy_in (λ v. key v) policy.now) two
+        (S.may_answer source.now Checkpoint) (alone (policy_in (λ v. key v) policy.now)) two ×
+        HasFed (K.has_kept state.new) (policy_in (λ v. key v) policy.now) two
         (passage W.contents writer.old writer.new)) }
-    ensures refused { IfErr result (λ fault. RefusesFeed
-        (grounds_of (S.may_answer source.now) (S.may_lack source.now) (K.may_have state.old)
-        (K.may_fail state.old) (state.new ≡ state.old) (K.has_kept state.new))
-        (policy_in (λ v. key v) policy.now) fault
+    ensures refused { IfErr result (λ fault. RefusesFeed (grounds_of (S.may_answer source.now)
+        (S.may_lack source.now) (K.may_have state.old) (K.may_fail state.old)
+        (state.new ≡ state.old) (K.has_kept state.new)) (policy_in (λ v. key v) policy.now) fault
         (passage W.contents writer.old writer.new)) }
 {
     let log = Policy {
