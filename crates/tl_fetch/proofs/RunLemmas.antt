@@ -349,6 +349,7 @@ told_is (fetch.BadWitness place) lack = inl refl
 told_is (fetch.SharedKey place) lack = inl refl
 told_is fetch.OtherLog lack = inl refl
 told_is (fetch.TooFew count) lack = inl refl
+told_is (fetch.Untrusted why) lack = inl refl
 told_is (fetch.Stale time) lack = inl refl
 told_is (fetch.BadTile level index width) lack = inl refl
 told_is (fetch.BadBundle bundle) lack = inl refl

@@ -1,6 +1,5 @@
 //! Asks a policy's witnesses about a log's checkpoint.
 
-
 ghost use Rattle.tl_fetch.specs.Trusting.{IsNoteOf, alone, policy_in};
 
 use crate::policy::Policy;
