@@ -10,7 +10,7 @@ use Rattle.tl_command.specs.ProofCommands.{InclusionComes, ConsistencyComes, Che
 use Rattle.tl_command.specs.AuditCommand.{AuditComes}
 use Rattle.tl_run.specs.declared.fault.RunFault.{RunFault}
 use Rattle.tl_cli.specs.declared.job.Job.{Job}
-use Rattle.tl_cli.specs.declared.job.Job.TheVariants.{Head, Build, BuildSigned, Append, AppendTo, Inclusion, Consistency, Check, CheckUnder, CheckFork, Keygen, KeygenTo, Open, Audit, Serve, ServeFrom, Witness, Fetch, FetchBy, Feed, Verify, Prove, Submit, Version, Help}
+use Rattle.tl_cli.specs.declared.job.Job.TheVariants.{Head, Build, BuildSigned, Append, AppendTo, Inclusion, Consistency, Check, CheckUnder, CheckFork, Keygen, KeygenTo, Open, Audit, Serve, ServeFrom, Witness, Fetch, FetchBy, Feed, FeedBy, Verify, Prove, Submit, Version, Help}
 use Rattle.tl_run.specs.Signing.{demo_log_key}
 use Rattle.tl_command.specs.Build.{RunsBuild}
 use Rattle.tl_command.specs.Signed.{RunsSigned}
@@ -23,7 +23,7 @@ use Rattle.tl_fetch.specs.Command.{RunsFetch}
 use Rattle.tl_fetch.specs.FeedCommand.{RunsFeed}
 use Rattle.tl_prove.specs.VerifyCommand.{RunsVerify}
 use Rattle.tl_prove.specs.ProveCommand.{RunsProve}
-use Rattle.tl_prove.specs.FetchCommand.{RunsFetchBy}
+use Rattle.tl_prove.specs.FetchCommand.{RunsFeedBy, RunsFetchBy}
 use Rattle.tl_prove.specs.SubmitCommand.{RunsSubmit}
 use Rattle.tl_prove.specs.declared.fault.ProveFault.{ProveFault}
 use Rattle.tl_run.specs.Origins.{RefusesOrigin}
@@ -78,7 +78,7 @@ key_kind true = cosignature_kind
 key_kind false = note_kind
 
 -- the outcome of a command has this property; that of `fetch` or `feed` has; that of `verify`, `prove` or `submit`, or
--- of `fetch` under a policy, has; that of `witness` has
+-- of `fetch` or `feed` under a policy, has; that of `witness` has
 abbrev pub IsRun : (Result (Unit {0}) RunFault → Type 0) → Result (Unit {0}) CommandFault → Type 0
 IsRun Is result = (outcome : Result (Unit {0}) RunFault) × Is outcome × (result ≡ by_run outcome)
 
@@ -124,6 +124,7 @@ RunsJob held reached (Witness options) folder i o e result =
     IsWitness (RefusesLog options.logs i) result × SparesStreams options i o
 RunsJob held reached (Fetch options) folder i o e result = IsFetched (RunsFetch options o) result × IsUnread i
 RunsJob held reached (FetchBy options) folder i o e result = IsProved (RunsFetchBy options o) result × IsUnread i
+RunsJob held reached (FeedBy options) folder i o e result = IsProved (RunsFeedBy options o) result × IsUnread i
 RunsJob held reached (Feed options) folder i o e result = IsFetched (RunsFeed options o) result × IsUnread i
 RunsJob held reached (Verify options) folder i o e result = IsProved (RunsVerify options i o) result × IsUnwritten e
 RunsJob held reached (Prove options) folder i o e result = IsProved (RunsProve options o) result × IsUnread i × IsUnwritten e

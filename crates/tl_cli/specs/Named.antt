@@ -18,7 +18,7 @@ use Rattle.tl_serve.specs.declared.options.WitnessSignerKey.TheVariants as cosig
 use Rattle.tl_serve.specs.declared.options.KnownLogs.{KnownLogs}
 use Rattle.tl_serve.specs.declared.options.KnownLogs.TheVariants.{One, Listed}
 use Rattle.tl_cli.specs.declared.job.Job.{Job}
-use Rattle.tl_cli.specs.declared.job.Job.TheVariants.{BuildSigned, Append, AppendTo, CheckFork, CheckUnder, KeygenTo, Serve, ServeFrom, Witness, Fetch, FetchBy, Feed, Verify, Prove, Submit}
+use Rattle.tl_cli.specs.declared.job.Job.TheVariants.{BuildSigned, Append, AppendTo, CheckFork, CheckUnder, KeygenTo, Serve, ServeFrom, Witness, Fetch, FetchBy, Feed, FeedBy, Verify, Prove, Submit}
 
 -- the file of a key
 abbrev pub key_file : LogKey → Option Bytes
@@ -45,6 +45,7 @@ abbrev pub state_of : Job → Option Bytes
 state_of (Witness options) = option_map string_bytes options.state
 state_of (Fetch options) = option_map string_bytes options.state
 state_of (FetchBy options) = option_map string_bytes options.fetch.state
+state_of (FeedBy options) = option_map string_bytes options.fetch.state
 state_of (Feed options) = option_map string_bytes options.log.state
 state_of job = None
 
@@ -60,6 +61,7 @@ log_of job = None
 abbrev pub source_of : Job → Option Bytes
 source_of (Fetch options) = Some (string_bytes options.from)
 source_of (FetchBy options) = Some (string_bytes options.fetch.from)
+source_of (FeedBy options) = Some (string_bytes options.fetch.from)
 source_of (Feed options) = Some (string_bytes options.log.from)
 source_of (Prove options) = Some (string_bytes options.from)
 source_of (Submit options) = Some (string_bytes options.to)
@@ -95,9 +97,10 @@ abbrev pub wanted_file : ProveRequest → Option Bytes
 wanted_file (request.Index index) = None
 wanted_file (request.Entry given) = entry_file given
 
--- the files of `verify`, `prove`, `submit` and `fetch`: that of the policy, of the entry, and of the extra data
+-- the files of `verify`, `prove`, `submit`, `fetch` and `feed`: that of the policy, of the entry, and of the extra data
 abbrev pub policy_file : Job → Option Bytes
 policy_file (FetchBy options) = Some (string_bytes options.policy)
+policy_file (FeedBy options) = Some (string_bytes options.policy)
 policy_file (Verify options) = Some (string_bytes options.policy)
 policy_file (Prove options) = Some (string_bytes options.policy)
 policy_file (Submit options) = Some (string_bytes options.policy)
@@ -127,12 +130,14 @@ base_of job place.State = state_of job
 base_of job (place.Log resource) = log_of job
 base_of job (place.Source resource) = source_of job
 
--- the address of the witness with an index, and an address that the options name
+-- the address of the witness with an index, or the file of the policy that has it, and an address that the options
+-- name
 abbrev pub text_at : {A : Type 0} → List (String A) → ℕ → Option Bytes
 text_at texts place = option_map string_bytes (slice_get texts place)
 
 abbrev pub witness_address : Job → ℕ → Option Bytes
 witness_address (Feed options) place = text_at (vec_items options.to) place
+witness_address (FeedBy options) place = Some (string_bytes options.policy)
 witness_address job place = None
 
 abbrev pub address_of : Job → Address → Option Bytes

@@ -81,6 +81,8 @@ pub enum Job {
     Fetch(FetchOptions),
     /// Fetch from a log that isn't trusted, under a policy.
     FetchBy(PolicyFetchOptions),
+    /// Bring a log's checkpoint before the witnesses of a policy.
+    FeedBy(PolicyFetchOptions),
     /// Bring a log's checkpoint before witnesses.
     Feed(FeedOptions),
     /// Check a proof of an entry under a policy.

@@ -52,7 +52,7 @@ fn state_of(job: &Job) -> Option<&str>
     match job {
         Job::Witness(options) => options.state.as_deref(),
         Job::Fetch(options) => options.state.as_deref(),
-        Job::FetchBy(options) => options.fetch.state.as_deref(),
+        Job::FetchBy(options) | Job::FeedBy(options) => options.fetch.state.as_deref(),
         Job::Feed(options) => options.log.state.as_deref(),
         _ => None,
     }
@@ -108,7 +108,7 @@ fn source_of(job: &Job) -> Option<&str>
 {
     match job {
         Job::Fetch(options) => Some(options.from.as_str()),
-        Job::FetchBy(options) => Some(options.fetch.from.as_str()),
+        Job::FetchBy(options) | Job::FeedBy(options) => Some(options.fetch.from.as_str()),
         Job::Feed(options) => Some(options.log.from.as_str()),
         Job::Prove(options) => Some(options.from.as_str()),
         Job::Submit(options) => Some(options.to.as_str()),
@@ -142,7 +142,7 @@ fn policy_file(job: &Job) -> Option<&str>
     ensures { option_map (λ s. s.now) result ≡ policy_file job.now }
 {
     match job {
-        Job::FetchBy(options) => Some(options.policy.as_str()),
+        Job::FetchBy(options) | Job::FeedBy(options) => Some(options.policy.as_str()),
         Job::Verify(options) => Some(options.policy.as_str()),
         Job::Prove(options) => Some(options.policy.as_str()),
         Job::Submit(options) => Some(options.policy.as_str()),
@@ -217,12 +217,13 @@ fn text_at(texts: &[String], place: u64) -> Option<&str>
     }
 }
 
-// Returns the address of the witness with this index that the options name.
+// Returns the address of the witness with this index that the options name, or the file that has it.
 fn witness_address(job: &Job, place: u64) -> Option<&str>
     ensures { option_map (λ s. s.now) result ≡ witness_address job.now place }
 {
     match job {
         Job::Feed(options) => text_at(options.to.as_slice(), place),
+        Job::FeedBy(options) => Some(options.policy.as_str()),
         _ => None,
     }
 }

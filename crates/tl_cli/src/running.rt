@@ -43,7 +43,7 @@ use tl_fetch::{run_feed, run_fetch};
 use tl_folder::CrashOutcome;
 use tl_hash::Sha256Tree;
 use tl_key::{Cosignature, Note};
-use tl_prove::{run_fetch_by, run_prove, run_submit, run_verify};
+use tl_prove::{run_feed_by, run_fetch_by, run_prove, run_submit, run_verify};
 use tl_run::{HmacLogSigner, RunFault, read_file};
 use tl_serve::Host;
 
@@ -234,6 +234,7 @@ pub fn run_job<
         Job::FetchBy(options) => {
             after_prove(run_fetch_by(rt, alloc, options, writer, errors, is_terminal))
         }
+        Job::FeedBy(options) => after_prove(run_feed_by(rt, alloc, options, writer, errors)),
         Job::Feed(options) => after_fetch(run_feed(rt, alloc, options, writer, errors)),
         Job::Verify(options) => after_prove(run_verify(rt, alloc, options, reader, writer)),
         Job::Prove(options) => after_prove(run_prove(rt, alloc, options, writer)),

@@ -11,7 +11,7 @@ use Rattle.tl_tile.specs.declared.resource.Resource.{Resource}
 use Rattle.tl_tile.specs.declared.resource.Resource.TheVariants.{Checkpoint}
 use Rattle.tl_source.specs.declared.lack.Lack.{Lack}
 use Rattle.tl_source.specs.Sources.{Origin}
-use Rattle.tl_fetch.specs.declared.feed.command.FeedOptions.{FeedOptions}
+use Rattle.tl_fetch.specs.declared.options.FetchOptions.{FetchOptions}
 use Rattle.tl_fetch.specs.Command.{IsOriginOf, IsStateFault, may_have, state_fails}
 use Rattle.tl_fetch.specs.FeedCommand.{IsAddressFault, IsFirstNoUrl, RunsFeedUnder, feed_answers}
 use Rattle.tl_fetch.specs.Inner.FeedRuns.{FeedsOver}
@@ -90,21 +90,21 @@ feed_no_file state path answers lacks policy fault o some fails fair none =
     inl (inl (inl (subst (λ s. state_fails s fault) (sym some) fails)), fair, tt, none)
 
 -- the end of a run over a folder or a host, whose fault names what was lacked
-pub feed_renamed : (policy : Policy) (options : FeedOptions) (origin : Origin) (lack : Option Lack) (o : Passage) (outcome told : Result (Unit {0}) FetchFault) → IsOriginOf (string_bytes options.log.from) origin
-    → Renames outcome lack told → FeedsOver (feed_answers origin) (λ r. Unit {0}) policy options.log o outcome
-    → RunsFeedUnder policy options o told
-feed_renamed policy options origin lack o (Ok done) (Ok again) at same runs = (origin, at, runs)
-feed_renamed policy options origin lack o (Ok done) (Err other) at same runs = absurd same
-feed_renamed policy options origin lack o (Err fault) (Ok done) at same runs = absurd same
-feed_renamed policy options origin lack o (Err fault) (Err other) at same runs = inr (origin, at, (fault, told_by fault other lack same, runs))
+pub feed_renamed : (policy : Policy) (addresses : List Bytes) (options : FetchOptions) (origin : Origin) (lack : Option Lack) (o : Passage) (outcome told : Result (Unit {0}) FetchFault) → IsOriginOf (string_bytes options.from) origin
+    → Renames outcome lack told → FeedsOver (feed_answers origin) (λ r. Unit {0}) policy options o outcome
+    → RunsFeedUnder policy addresses options o told
+feed_renamed policy addresses options origin lack o (Ok done) (Ok again) at same runs = (origin, at, runs)
+feed_renamed policy addresses options origin lack o (Ok done) (Err other) at same runs = absurd same
+feed_renamed policy addresses options origin lack o (Err fault) (Ok done) at same runs = absurd same
+feed_renamed policy addresses options origin lack o (Err fault) (Err other) at same runs = inr (origin, at, (fault, told_by fault other lack same, runs))
 
 -- an address that is none, or memory that ran out before one was read: nothing was printed
-pub no_address : (policy : Policy) (options : FeedOptions) (fault : FetchFault) (o : Passage) → IsUnwritten o → IsAddressFault options fault → RunsFeedUnder policy options o (Err fault)
-no_address policy options fault o none why = inl (why, none)
+pub no_address : (policy : Policy) (addresses : List Bytes) (options : FetchOptions) (fault : FetchFault) (o : Passage) → IsUnwritten o → IsAddressFault (string_bytes options.from) addresses fault
+    → RunsFeedUnder policy addresses options o (Err fault)
+no_address policy addresses options fault o none why = inl (why, none)
 
 -- a text among those of the witnesses' addresses that is none, or memory that ran out
-pub bad_texts : (options : FeedOptions) (texts : List (String Global)) (fault : FetchFault) → texts ≡ vec_items options.to
-    → (fault ≡ fetch.Run run.OutOfMemory) ⊎ ((place : ℕ) × (fault ≡ fetch.BadAddress (address.To place)) × IsFirstNoUrl (map string_bytes texts) place) → IsAddressFault options fault
-bad_texts options texts fault same (inl memory) = inr (inr memory)
-bad_texts options texts fault same (inr (place, bad, first)) =
-    inr (inl (place, bad, subst (λ (ts : List (String Global)). IsFirstNoUrl (map string_bytes ts) place) same first))
+pub bad_texts : (from : Bytes) (texts : List Bytes) (fault : FetchFault)
+    → (fault ≡ fetch.Run run.OutOfMemory) ⊎ ((place : ℕ) × (fault ≡ fetch.BadAddress (address.To place)) × IsFirstNoUrl texts place) → IsAddressFault from texts fault
+bad_texts from texts fault (inl memory) = inr (inr memory)
+bad_texts from texts fault (inr bad) = inr (inl bad)

@@ -1,4 +1,4 @@
--- The command `fetch` under the text of a policy (C2SP tlog-policy).
+-- The commands `fetch` and `feed` under the text of a policy (C2SP tlog-policy).
 use Rattle.std.specs.Prelude.{◌≡◌, ◌⊎◌, ◌&&◌, Bool, true, false, List, [], ◌∷◌, if◌then◌else◌, not, bytes_eq, map, Option, None, Some, Result, Ok, Err, string_bytes}
 use Rattle.tl_hash.specs.Bytes.{Bytes}
 use Rattle.tl_key.specs.NoteKey.{PublicKey, note_kind, verifier_key}
@@ -10,6 +10,7 @@ use Rattle.tl_fetch.specs.declared.fault.FetchFault.{FetchFault}
 use Rattle.tl_fetch.specs.declared.fault.FetchFault.TheVariants.{Run, Untrusted}
 use Rattle.tl_fetch.specs.declared.options.FetchOptions.{FetchOptions}
 use Rattle.tl_fetch.specs.Command.{IsSinceOf, RunsUnder, keys_of}
+use Rattle.tl_fetch.specs.FeedCommand.{RunsFeedUnder}
 use Rattle.tl_fetch.specs.Trusting.{Policy, Under}
 
 -- ---- which log is fetched from
@@ -60,6 +61,7 @@ pub record IsPolicyBy (terms : Terms) (options : FetchOptions) (policy : Policy)
   pub chosen : AreKeysBy terms (string_bytes options.from) key other
   pub origin : policy.origin ≡ key.name
   pub keys : policy.trust.keys ≡ map verifier_key (keys_of key other)
+  pub none_needed : policy.trust.need ≡ 0
   pub under : Under
   pub asked : policy.under ≡ Some under
   pub text : under.terms ≡ terms
@@ -78,3 +80,15 @@ RunsBy terms options o result = (policy : Policy) × IsPolicyBy terms options po
 abbrev pub FetchesBy : Terms → FetchOptions → Passage → Result (Unit {0}) FetchFault → Type 0
 FetchesBy terms options o (Ok done) = RunsBy terms options o (Ok done)
 FetchesBy terms options o (Err fault) = RunsBy terms options o (Err fault) ⊎ (NamesNone terms (string_bytes options.from) fault × IsUnwritten o)
+
+-- a run of `feed` under the policy that the text and the options describe, before witnesses at these addresses
+abbrev pub RunsFeedBy : Terms → List Bytes → FetchOptions → Passage → Result (Unit {0}) FetchFault → Type 0
+RunsFeedBy terms addresses options o result =
+    (policy : Policy) × IsPolicyBy terms options policy × RunsFeedUnder policy addresses options o result
+
+-- a run of `feed` under the text of a policy: if no log is named, nothing is printed
+abbrev pub FeedsBy : Terms → FetchOptions → Passage → Result (Unit {0}) FetchFault → Type 0
+FeedsBy terms options o (Ok done) = (addresses : List Bytes) × RunsFeedBy terms addresses options o (Ok done)
+FeedsBy terms options o (Err fault) =
+    ((addresses : List Bytes) × RunsFeedBy terms addresses options o (Err fault))
+    ⊎ (NamesNone terms (string_bytes options.from) fault × IsUnwritten o)

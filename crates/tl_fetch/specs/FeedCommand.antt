@@ -29,10 +29,10 @@ abbrev pub address_texts : FeedOptions → List Bytes
 address_texts options = map string_bytes (vec_items options.to)
 
 -- the text that the log is read from has a scheme and is no address, or a witness's text is none; or memory ran out
-abbrev pub IsAddressFault : FeedOptions → FetchFault → Type 0
-IsAddressFault options fault =
-    ((fault ≡ BadAddress From) × HasScheme (string_bytes options.log.from) × IsNoUrl (string_bytes options.log.from))
-    ⊎ (((place : ℕ) × (fault ≡ BadAddress (To place)) × IsFirstNoUrl (address_texts options) place)
+abbrev pub IsAddressFault : Bytes → List Bytes → FetchFault → Type 0
+IsAddressFault from addresses fault =
+    ((fault ≡ BadAddress From) × HasScheme from × IsNoUrl from)
+    ⊎ (((place : ℕ) × (fault ≡ BadAddress (To place)) × IsFirstNoUrl addresses place)
     ⊎ (fault ≡ Run OutOfMemory))
 
 -- what may be answered over the folder or the host, whose full tiles and bundles stand for partial ones that are gone
@@ -43,20 +43,20 @@ feed_answers origin = may_answer_front (any_answers origin) (λ r. Unit {0})
 abbrev pub feed_grounds : Origin → FetchOptions → Grounds
 feed_grounds origin options = grounds_over (feed_answers origin) (λ r. Unit {0}) options
 
--- a run under a policy: two checkpoints are trusted, the state's and the source's, and the source's was fed; or an
--- address is none, and nothing is printed; or it fails as `RefusesFeed` says
-abbrev pub RunsFeedUnder : Policy → FeedOptions → Passage → Result (Unit {0}) FetchFault → Type 0
-RunsFeedUnder policy options o (Ok done) =
-    (origin : Origin) × IsOriginOf (string_bytes options.log.from) origin
-    × ((two : Two) × AreTwo (may_have options.log.state) (feed_answers origin Checkpoint) (alone policy) two × HasFed (λ note. Unit {0}) policy two o)
-RunsFeedUnder policy options o (Err told) =
-    (IsAddressFault options told × IsUnwritten o)
-    ⊎ ((origin : Origin) × IsOriginOf (string_bytes options.log.from) origin
-    × ((fault : FetchFault) × IsToldAs fault told × RefusesFeed (feed_grounds origin options.log) policy fault o))
+-- a run under a policy, before witnesses at these addresses: two checkpoints are trusted, the state's and the
+-- source's, and the source's was fed; or an address is none, and nothing is printed; or it fails as `RefusesFeed` says
+abbrev pub RunsFeedUnder : Policy → List Bytes → FetchOptions → Passage → Result (Unit {0}) FetchFault → Type 0
+RunsFeedUnder policy addresses options o (Ok done) =
+    (origin : Origin) × IsOriginOf (string_bytes options.from) origin
+    × ((two : Two) × AreTwo (may_have options.state) (feed_answers origin Checkpoint) (alone policy) two × HasFed (λ note. Unit {0}) policy two o)
+RunsFeedUnder policy addresses options o (Err told) =
+    (IsAddressFault (string_bytes options.from) addresses told × IsUnwritten o)
+    ⊎ ((origin : Origin) × IsOriginOf (string_bytes options.from) origin
+    × ((fault : FetchFault) × IsToldAs fault told × RefusesFeed (feed_grounds origin options) policy fault o))
 
 -- a run under the policy that the options describe
 abbrev pub FeedsAsTold : FeedOptions → Passage → Result (Unit {0}) FetchFault → Type 0
-FeedsAsTold options o result = (policy : Policy) × IsPolicyOf options.log policy × RunsFeedUnder policy options o result
+FeedsAsTold options o result = (policy : Policy) × IsPolicyOf options.log policy × RunsFeedUnder policy (address_texts options) options.log o result
 
 -- a run of `feed`: if a text is no key, or one that came before, nothing is printed
 abbrev pub RunsFeed : FeedOptions → Passage → Result (Unit {0}) FetchFault → Type 0

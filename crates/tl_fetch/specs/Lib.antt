@@ -10,6 +10,6 @@ pub mod Evidence
 pub mod Fetching
 pub mod Feeding
 pub mod Command
-pub mod ByPolicy
 pub mod FeedCommand
+pub mod ByPolicy
 pub mod Inner

@@ -103,8 +103,12 @@ fn twin_of(
     twin_of(alloc, rest, key)
 }
 
-// Returns the keys of the log that is fetched from here.
-fn keys_by(alloc: Global, text: &Text<'_, Global>, from: &str) -> Result<LogKeys, FetchFault>
+/// Returns the keys of the log that is fetched from here. It fails with `Untrusted` if the text names none.
+pub(crate) fn keys_by(
+    alloc: Global,
+    text: &Text<'_, Global>,
+    from: &str,
+) -> Result<LogKeys, FetchFault>
     ensures read { IfOk result
         (λ keys. AreKeysBy (terms_of text.now) from.now keys.key keys.other) }
     ensures refused { IfErr result (NamesNone (terms_of text.now) from.now) }

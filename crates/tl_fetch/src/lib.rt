@@ -69,6 +69,7 @@ pub use entry::fetch_entry;
 pub use fault::{Address, FetchFault, fetch_exit_of, fetch_fault_line};
 pub use faults::client_refusal;
 pub use feed::asking::AsksWitnesses;
+pub use feed::by_policy::feed_by_policy;
 pub use feed::command::{FeedOptions, run_feed};
 pub use feed::feeding::feed_under;
 pub use law::listing_is_one_list;

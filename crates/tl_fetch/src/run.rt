@@ -337,9 +337,15 @@ pub fn fetch_under<
     observer: &mut O,
     writer: &mut Counted<W>,
 ) -> Result<(), FetchFault>
-    ensures fetched { OnOk result (HasFetched (S.may_answer source.now) (record { may_have =
-        K.may_have state.old; has_kept = K.has_kept state.new }) (record { may_have = C.may_have
-        printed.old; has_kept = C.has_kept printed.new }) (policy_in (λ v. key v) policy.now) wanted
+    ensures fetched { OnOk result (HasFetched (S.may_answer source.now) (record {
+      may_have =
+          K.may_have state.old;
+      has_kept = K.has_kept state.new;
+    }) (record {
+      may_have = C.may_have
+          printed.old;
+      has_kept = C.has_kept printed.new;
+    }) (policy_in (λ v. key v) policy.now) wanted
         (passage W.contents writer.old writer.new)) }
     ensures unmoved { wanted ≢ FetchRequest.All → printed.new ≡ printed.old }
     ensures refused { IfErr result (λ fault. RefusesFetch (grounds_of (S.may_answer source.now)

@@ -1,4 +1,4 @@
--- The definitions of the commands `verify`, `prove` and `submit`, and of `fetch` under a policy.
+-- The definitions of the commands `verify`, `prove` and `submit`, and of `fetch` and `feed` under a policy.
 pub mod Entry
 pub mod Faults
 pub mod FaultWords

@@ -24,7 +24,7 @@
 //! An entry may stand for a file (`digest_entry`): `sha256 `, the file's SHA-256, and a name if one is given. So files
 //! of any size can be logged.
 //!
-//! `run_fetch_by` is the command `fetch` under a policy.
+//! `run_fetch_by` and `run_feed_by` are the commands `fetch` and `feed` under a policy.
 #![tactic(auto)]
 
 mod accepted;
@@ -43,7 +43,7 @@ mod verifying;
 pub use accepted::accepted_lines;
 pub use entry::{MOST_DIGESTED, digest_entry, digest_of};
 pub use fault::{NamedFile, ProveFault, Refusal, prove_exit_of};
-pub use fetch_command::run_fetch_by;
+pub use fetch_command::{run_feed_by, run_fetch_by};
 pub use options::{
     EntryOptions, PolicyFetchOptions, ProveOptions, ProveRequest, SubmitOptions, VerifyOptions,
 };

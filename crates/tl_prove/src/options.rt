@@ -1,4 +1,4 @@
-//! The options of `verify`, `prove` and `submit`, and of `fetch` under a policy.
+//! The options of `verify`, `prove` and `submit`, and of `fetch` and `feed` under a policy.
 
 use tl_fetch::FetchOptions;
 
@@ -69,11 +69,12 @@ pub struct SubmitOptions {
     pub timeout: u64,
 }
 
-/// The options of `fetch` under a policy.
+/// The options of `fetch` or `feed` under a policy.
 #[derive(Drop)]
 pub struct PolicyFetchOptions {
     /// The file of the policy.
     pub policy: String,
-    /// What is fetched, from where, and how. Its keys and witnesses aren't used, nor how many of them are needed.
+    /// What is fetched or fed, from where, and how. Its keys and witnesses aren't used, nor how many of these are
+    /// needed.
     pub fetch: FetchOptions,
 }

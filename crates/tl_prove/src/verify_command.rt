@@ -1,6 +1,5 @@
 //! The command `verify`.
 
-
 ghost use Rattle.tl_device.specs.Device.{passage};
 ghost use Rattle.tl_policy.specs.Terms.{terms_of};
 ghost use Rattle.tl_prove.specs.VerifyCommand.{PrintsAccepted, RunsVerify, VerifiesBy, VerifiesInput};

@@ -1,13 +1,18 @@
 //! The words of the command `feed`.
 
-use super::fetching::{FROM, TIMEOUT_OF_ONE, fetch_options, log_refusal, name_of};
-use super::given::{count_given, texts_of, usage_error};
+use super::fetching::{FROM, TIMEOUT_OF_ONE, fetch_options, has_keys, log_refusal, name_of};
+use super::given::{count_given, is_given, text_if_given, texts_of, usage_error};
 use super::table::{Group, Kind, Word, Words};
 use super::{LOG_KEYS, WITNESS_KEY, WordsFault, texts};
 use crate::job::Job;
 use clap::ArgMatches;
 use std::alloc::Global;
 use tl_fetch::{FeedOptions, FetchRequest};
+use tl_prove::PolicyFetchOptions;
+
+// The message if it isn't said who is asked, or twice.
+const ONE_TRUST: &str =
+    "one of --key and --policy is given, and --to, --witness and --need with --key alone";
 
 // The message if not each witness has its address.
 const PAIRS: &str =
@@ -22,7 +27,7 @@ const FEED: Words = Words {
             heading: "The log",
             words: words![
                 "from" "FROM" Kind::RequiredText => FROM;
-                "key" "VKEY" Kind::RequiredTexts => LOG_KEYS;
+                "key" "VKEY" Kind::Texts => LOG_KEYS;
                 "state" "FILE" Kind::Path => "The checkpoint that was trusted last";
             ],
         },
@@ -33,6 +38,8 @@ const FEED: Words = Words {
                 "witness" "VKEY" Kind::Texts => WITNESS_KEY;
                 "need" "N" Kind::Number(0, u64::MAX)
                     => "How many of them must cosign (default: all)";
+                "policy" "FILE" Kind::Path
+                    => "In place of --key and these three: a policy (C2SP tlog-policy)";
                 "timeout" "N" Kind::Number(1, 86_400) => TIMEOUT_OF_ONE;
             ],
         },
@@ -69,12 +76,28 @@ fn feed_refusal(options: &ArgMatches<'_>) -> Option<&'static str> {
     log_refusal(options)
 }
 
-// Returns the job of `feed`: each witness has its address, and no more have to cosign than there are.
+// Returns the message if it isn't said who is asked, or twice, or if the words of `feed` don't go together.
+fn asked_refusal(options: &ArgMatches<'_>) -> Option<&'static str> {
+    if is_given(options, "policy") {
+        let asks = has_keys(options) || count_given(options, "to") > 0;
+        return asks.then_some(ONE_TRUST);
+    }
+    if count_given(options, "key") == 0 {
+        return Some(ONE_TRUST);
+    }
+    feed_refusal(options)
+}
+
+// Returns the job of `feed`: each witness has its address, and no more have to cosign than there are; or a policy says
+// who is asked.
 pub(super) fn feed_job(alloc: Global, options: &ArgMatches<'_>) -> Result<Job, WordsFault> {
-    if let Some(why) = feed_refusal(options) {
+    if let Some(why) = asked_refusal(options) {
         return Err(usage_error(alloc, feed(), why));
     }
     let log = fetch_options(alloc, options, FetchRequest::Head)?;
+    if let Some(policy) = text_if_given(alloc, options, "policy")? {
+        return Ok(Job::FeedBy(PolicyFetchOptions { policy, fetch: log }));
+    }
     let to = texts_of(alloc, options, "to")?;
     Ok(Job::Feed(FeedOptions { log, to }))
 }

@@ -209,8 +209,8 @@ pub(super) fn fetch_options(
     })
 }
 
-// Reports whether keys are given, or what belongs to them.
-fn has_keys(options: &ArgMatches<'_>) -> bool {
+/// Reports whether keys are given, or what belongs to them.
+pub(super) fn has_keys(options: &ArgMatches<'_>) -> bool {
     let texts = count_given(options, "key") + count_given(options, "witness");
     texts > 0 || options.get_one::<u64>("need").is_some()
 }

@@ -259,9 +259,13 @@ one, if they are --need. If the log forked, evidence, as 'tlog fetch' prints it.
 Why a witness gave no cosignature is reported on standard error, a line
 'tlog: witness K: ..' each, counted from 0.
 
-Exit status: 0 done; 1 refused (as 'tlog fetch'; cosigned by N witnesses); 2
-wrong arguments or a call for help; 3 not available, an older checkpoint, or a
-read or a write failed; 4 the log forked.
+--policy stands in the place of --key, --to, --witness and --need: the log is
+that of 'tlog fetch', each witness of the policy that has a URL is asked there,
+and the lines have to satisfy the quorum.
+
+Exit status: 0 done; 1 refused (as 'tlog fetch'; cosigned by N witnesses, or by
+N, K wanted); 2 wrong arguments or a call for help; 3 not available, an older
+checkpoint, or a read or a write failed; 4 the log forked.
 
 Example: tlog feed --from http://example.com/log --key @key.pub \\
              --to http://127.0.0.1:8081 --witness @witness.pub";

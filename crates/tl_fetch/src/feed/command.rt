@@ -1,6 +1,6 @@
 //! The command `feed`.
 
-ghost use Rattle.std.specs.Prelude.{◌≡◌, map};
+ghost use Rattle.std.specs.Prelude.{◌≡◌, None, map, string_bytes};
 ghost use Rattle.tl_device.specs.Device.{passage};
 ghost use Rattle.tl_fetch.specs.Command.{IsSinceOf, keys_of};
 ghost use Rattle.tl_fetch.specs.FeedCommand.{RunsFeed, RunsFeedUnder};
@@ -92,24 +92,30 @@ fn feed_with_state<H: Files<File = File>, S: ResourceSource, Q: AsksWitnesses, W
     }
 }
 
-// Brings the checkpoint of the log that the options name before the witnesses.
-fn feed_as_asked<'s, H: Files<File = File> + Net<Stream = TcpStream> + Clock, W: Write, E: Write>(
+/// Brings the checkpoint of the log that the options name before the witnesses at these addresses.
+pub(crate) fn feed_as_asked<
+    's,
+    H: Files<File = File> + Net<Stream = TcpStream> + Clock,
+    W: Write,
+    E: Write,
+>(
     rt: &'s H,
     alloc: Global,
     policy: &Policy<'_>,
-    options: &'s FeedOptions,
+    to: &'s [String],
+    options: &'s FetchOptions,
     writer: &mut Counted<W>,
     errors: &'s mut Counted<E>,
 ) -> Result<(), FetchFault>
-    ensures { RunsFeedUnder (policy_in (λ v. key v) policy.now) options.now
-        (passage W.contents writer.old writer.new) result }
+    ensures { RunsFeedUnder (policy_in (λ v. key v) policy.now) (map string_bytes to.now)
+        options.now (passage W.contents writer.old writer.new) result }
 {
-    let urls = match addresses(alloc, options.to.as_slice()) {
+    let urls = match addresses(alloc, to) {
         Ok(urls) => urls,
         Err(fault) => return Err(fault),
     };
-    let from = options.log.from.as_str();
-    let source = match source_of(rt, alloc, from, options.log.timeout) {
+    let from = options.from.as_str();
+    let source = match source_of(rt, alloc, from, options.timeout) {
         Ok(source) => source,
         Err(fault) => return Err(fault),
     };
@@ -118,10 +124,10 @@ fn feed_as_asked<'s, H: Files<File = File> + Net<Stream = TcpStream> + Clock, W:
         rt,
         alloc,
         urls,
-        limit: Duration::from_secs(options.log.timeout),
+        limit: Duration::from_secs(options.timeout),
         errors,
     };
-    let outcome = feed_with_state(rt, alloc, &source, policy, &options.log, &mut asker, writer);
+    let outcome = feed_with_state(rt, alloc, &source, policy, options, &mut asker, writer);
     with_lack(outcome, source.lack())
 }
 
@@ -141,7 +147,8 @@ fn feed_as_told<'s, H: Files<File = File> + Net<Stream = TcpStream> + Clock, W: 
     requires no_text { policy.now.under ≡ None }
     ensures { RunsFeed options.now (passage W.contents writer.old writer.new) result }
 {
-    match feed_as_asked(rt, alloc, policy, options, writer, errors) {
+    let to = options.to.as_slice();
+    match feed_as_asked(rt, alloc, policy, to, &options.log, writer, errors) {
         Ok(()) => Ok(()),
         Err(fault) => Err(fault),
     }

@@ -30,6 +30,10 @@ pub returns-in-FetchBy : goal.returns-in-FetchBy
 returns-in-FetchBy g c = rw c.in-FetchBy.is
     ((c.run_fetch_by.result, c.run_fetch_by.ensures, c.after_prove.ensures), (Keeps-refl (g.R.Read.remaining c.args.reader.now.device), refl))
 
+pub returns-in-FeedBy : goal.returns-in-FeedBy
+returns-in-FeedBy g c = rw c.in-FeedBy.is
+    ((c.run_feed_by.result, c.run_feed_by.ensures, c.after_prove-in-FeedBy.ensures), (Keeps-refl (g.R.Read.remaining c.args.reader.now.device), refl))
+
 pub returns-in-Feed : goal.returns-in-Feed
 returns-in-Feed g c = rw c.in-Feed.is
     ((c.run_feed.result, c.run_feed.ensures, c.after_fetch-in-Feed.ensures), (Keeps-refl (g.R.Read.remaining c.args.reader.now.device), refl))
