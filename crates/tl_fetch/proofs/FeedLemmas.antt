@@ -1,6 +1,5 @@
 -- Bringing a log's checkpoint before witnesses: how a run ends, and what was printed before.
-use Rattle.std.proofs.Common.{◌≡◌, ◌⊎◌, ◌++◌, ℕ, inl, inr, map, subst, sym, string_bytes, vec_items, List, String, Option, Some, None, Result, Ok, Err}
-use Rattle.std.specs.Global.{Global}
+use Rattle.std.proofs.Common.{◌≡◌, ◌⊎◌, ◌++◌, ℕ, inl, inr, subst, sym, string_bytes, List, Option, Some, None, Result, Ok, Err}
 use Rattle.tl_hash.specs.Bytes.{Bytes}
 use Rattle.tl_device.specs.Device.{Passage, IsUnwritten}
 use Rattle.tl_fetch.specs.declared.fault.Address.TheVariants as address

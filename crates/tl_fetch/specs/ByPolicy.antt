@@ -1,5 +1,5 @@
 -- The commands `fetch` and `feed` under the text of a policy (C2SP tlog-policy).
-use Rattle.std.specs.Prelude.{◌≡◌, ◌⊎◌, ◌&&◌, Bool, true, false, List, [], ◌∷◌, if◌then◌else◌, not, bytes_eq, map, Option, None, Some, Result, Ok, Err, string_bytes}
+use Rattle.std.specs.Prelude.{◌≡◌, ◌⊎◌, ◌&&◌, Bool, false, List, [], ◌∷◌, if◌then◌else◌, not, bytes_eq, map, Option, None, Some, Result, Ok, Err, string_bytes}
 use Rattle.tl_hash.specs.Bytes.{Bytes}
 use Rattle.tl_key.specs.NoteKey.{PublicKey, note_kind, verifier_key}
 use Rattle.tl_device.specs.Device.{Passage, IsUnwritten}

@@ -1,4 +1,4 @@
-use Rattle.std.proofs.Common.{ap, inl, inr, string_bytes, sym}
+use Rattle.std.proofs.Common.{ap, inl, inr, string_bytes}
 use Rattle.tl_fetch.specs.declared.fault.FetchFault.TheVariants as fetch
 use Rattle.tl_fetch.proofs.Passages.{part_of, still, whole_of}
 use Rattle.tl_fetch.proofs.feed.feeding.keep_and_feed.Goals as goal
