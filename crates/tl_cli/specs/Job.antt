@@ -148,8 +148,8 @@ pub record EndsJob (held : Held) (reached : Reached) (job : Job) (i o e : Passag
 abbrev pub EndsBefore : Passage → Passage → ℕ → ℕ → Type 0
 EndsBefore i o wanted status = IsUnread i × IsUnwritten o × (status ≡ wanted)
 
--- the words name a job, whose command ran; or they name none, and the status is 2; or the file of a public key can't
--- be read, and it is 3; or that file has no text, or allocation failed, and it is 1
+-- the words name a job, whose command ran; or they name none, and the status is 2; or the file of a public key or a
+-- policy can't be read, and it is 3; or that file has no such text, or allocation failed, and it is 1
 abbrev pub EndsWords : Held → Reached → Passage → Passage → Passage → ℕ → Type 0
 EndsWords held reached i o e status =
     ((job : Job) × EndsJob held reached job i o e status)

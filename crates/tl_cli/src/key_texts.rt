@@ -1,11 +1,14 @@
-//! Public keys whose texts are in files: `@FILE` stands for the text that the file has.
+//! Words whose texts are in files: `@FILE` stands for the public key that the file has, and `serve --witnesses FILE` for
+//! the witnesses of a policy.
 
 ghost use Rattle.std.specs.Prelude.{◌≡◌, ◌⊎◌};
 
+use crate::policy_words::{WITNESSES, push_policy};
 use std::alloc::{AllocError, AllocFailed, Global};
 use std::fs::Files;
 use std::io::Write;
 use tl_device::{Counted, write_whole};
+use tl_prove::{ProveFault, prove_exit_of};
 use tl_run::{RunFault, read_file};
 
 /// Why the text of a key isn't read from its file.
@@ -13,6 +16,10 @@ use tl_run::{RunFault, read_file};
 pub(crate) enum KeyTextFault {
     /// The file at this path can't be read, or has no text.
     Unread(String, RunFault),
+    /// The file at this path can't be read as a policy.
+    Policy(String, ProveFault),
+    /// The quorum of the policy at this path isn't a witness, or a group of witnesses, with URLs.
+    Quorum(String),
     /// Allocation failed.
     OutOfMemory,
 }
@@ -97,8 +104,50 @@ fn word_of<H: Files>(
     }
 }
 
+// Reports whether a word says by itself who is asked to cosign.
+fn asks(word: &String) -> bool {
+    let option = match word.split_once('=') {
+        Some((option, _)) => option,
+        None => word.as_str(),
+    };
+    option == "--witness" || option == "--need"
+}
+
+// Returns the path in a word that is the option of a policy's file with its value behind an equals sign.
+fn policy_in(word: &str) -> Option<&str> {
+    match word.split_once('=') {
+        Some((option, path)) if option == WITNESSES => Some(path),
+        _ => None,
+    }
+}
+
+// Returns the words of a command with those that a policy's file stands for, unless others say who is asked, too.
+fn with_policy<H: Files>(
+    rt: &H,
+    alloc: Global,
+    words: Vec<String>,
+) -> Result<Vec<String>, KeyTextFault> {
+    if words.iter().any(|word| asks(word)) {
+        return Ok(words);
+    }
+    let mut given = Vec::new(alloc);
+    let mut is_path = false;
+    for word in words {
+        if is_path {
+            let _ = given.pop();
+            push_policy(rt, alloc, word.as_str(), &mut given)?;
+        } else if let Some(path) = policy_in(word.as_str()) {
+            push_policy(rt, alloc, path, &mut given)?;
+        } else {
+            given.push(String::from_str(alloc, word.as_str())?)?;
+        }
+        is_path = word.as_str() == WITNESSES;
+    }
+    Ok(given)
+}
+
 /// Returns the words of a command, the program's name first, with the text of a file in place of each `@FILE` that
-/// stands for a public key.
+/// stands for a public key, and of `serve` with the witnesses of a policy in place of `--witnesses FILE`.
 pub(crate) fn with_key_texts<H: Files>(
     rt: &H,
     alloc: Global,
@@ -114,38 +163,45 @@ pub(crate) fn with_key_texts<H: Files>(
         given.push(word_of(rt, alloc, command, word.as_str(), is_key)?)?;
         is_key = takes_key(command, word.as_str());
     }
+    if command == "serve" {
+        return with_policy(rt, alloc, given);
+    }
     Ok(given)
 }
 
-// Prints why the text of a key can't be read from a file.
-fn tell_unread<E: Write>(
-    alloc: Global,
-    path: &str,
-    fault: &RunFault,
-    errors: &mut Counted<E>,
-) -> Result<(), AllocError> {
-    let line = match fault {
-        RunFault::Device(_, why) => format!(in alloc; "tlog: {path}: {why}\n")?,
-        RunFault::OutOfMemory => String::from_str(alloc, "tlog: out of memory\n")?,
-        _ => format!(in alloc; "tlog: {path}: bad key\n")?,
-    };
-    let _ = write_whole(errors, line.as_bytes());
-    Ok(())
+// Returns the line that says why a file can't be read.
+fn unread_line(alloc: Global, fault: &KeyTextFault) -> Result<String, AllocError> {
+    match fault {
+        KeyTextFault::Unread(path, RunFault::Device(_, why)) => {
+            format!(in alloc; "tlog: {path}: {why}\n")
+        }
+        KeyTextFault::Unread(_, RunFault::OutOfMemory) | KeyTextFault::OutOfMemory => {
+            String::from_str(alloc, "tlog: out of memory\n")
+        }
+        KeyTextFault::Unread(path, _) => format!(in alloc; "tlog: {path}: bad key\n"),
+        KeyTextFault::Policy(path, why) => format!(in alloc; "tlog: {path}: {why}\n"),
+        KeyTextFault::Quorum(path) => {
+            format!(in alloc; "tlog: {path}: quorum isn't of witnesses with URLs\n")
+        }
+    }
 }
 
-/// Prints a line to `errors` that says which file of a key can't be read, and why. It returns the exit status: 3 if a
-/// device failed, else 1.
+/// Prints a line to `errors` that says which file can't be read, and why. It returns the exit status: 3 if a device
+/// failed, else 1.
 pub(crate) fn end_unread<E: Write>(
     alloc: Global,
-    path: &str,
-    fault: &RunFault,
+    fault: &KeyTextFault,
     errors: &mut Counted<E>,
 ) -> u8
     ensures { (result ≡ 3) ⊎ (result ≡ 1) }
 {
-    let _ = tell_unread(alloc, path, fault, errors);
-    match fault {
-        RunFault::Device(_, _) => 3,
-        _ => 1,
+    if let Ok(line) = unread_line(alloc, fault) {
+        let _ = write_whole(errors, line.as_bytes());
     }
+    let failed = match fault {
+        KeyTextFault::Unread(_, RunFault::Device(_, _)) => true,
+        KeyTextFault::Policy(_, why) => prove_exit_of(why) == 3,
+        _ => false,
+    };
+    if failed { 3 } else { 1 }
 }

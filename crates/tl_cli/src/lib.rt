@@ -30,6 +30,7 @@ mod lasting;
 mod naming;
 mod own_bucket;
 mod own_folder;
+mod policy_words;
 mod proposal_file;
 mod running;
 mod serving_folder;

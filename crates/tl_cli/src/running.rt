@@ -248,7 +248,8 @@ pub fn run_job<
 
 /// Runs the command that the words name, the program's own name first, and returns the exit status. If the words name
 /// none, it prints the text on how to call the program to `errors` and returns 2, with nothing else read or written.
-/// `@FILE` in place of a public key stands for the text of that file; if the file can't be read, that is reported.
+/// `@FILE` in place of a public key stands for the text of that file, and `--witnesses FILE` of `serve` for the
+/// witnesses of a policy; if the file can't be read, that is reported.
 pub fn run_words<
     D: CrashOutcome + PutsTogether + Copy + Send + Drop,
     H: Host
@@ -275,10 +276,8 @@ pub fn run_words<
 {
     let words = match with_key_texts(rt, alloc, words) {
         Ok(words) => words,
-        Err(KeyTextFault::Unread(path, fault)) => {
-            return end_unread(alloc, path.as_str(), &fault, errors);
-        }
         Err(KeyTextFault::OutOfMemory) => return end_early(errors),
+        Err(fault) => return end_unread(alloc, &fault, errors),
     };
     match read_words(alloc, words.as_slice()) {
         Ok(job) => {

@@ -18,7 +18,7 @@ const MOST_POLICY: u64 = 65_536;
 const MOST_EXTRA: u64 = 1_048_576;
 
 /// Returns the text of the policy's file, of at most 65,536 bytes.
-pub(crate) fn policy_text<H: Files>(rt: &H, alloc: Global, path: &str) -> Result<String, ProveFault>
+pub fn policy_text<H: Files>(rt: &H, alloc: Global, path: &str) -> Result<String, ProveFault>
     ensures { IfErr result IsOfPolicy }
 {
     let bytes = match read_plain(alloc, rt, path, metadata(rt, path), MOST_POLICY) {
@@ -32,7 +32,7 @@ pub(crate) fn policy_text<H: Files>(rt: &H, alloc: Global, path: &str) -> Result
 }
 
 /// Returns the policy that a text is.
-pub(crate) fn policy_of(alloc: Global, text: &str) -> Result<Policy<'_, Global>, ProveFault>
+pub fn policy_of(alloc: Global, text: &str) -> Result<Policy<'_, Global>, ProveFault>
     ensures { ReadsTerms text.now result }
 {
     match parse_policy(alloc, alloc, text) {

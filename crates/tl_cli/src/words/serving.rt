@@ -37,6 +37,9 @@ const NO_PAIR: &str = "--witness is VKEY=http://HOST[:PORT][/PATH]";
 // The message if a number of cosignatures is given without a witness, or is 0.
 const OF_WITNESSES: &str = "--need is given with --witness alone, and at least 1";
 
+// The message if a policy says who is asked, and others do, too.
+const ONE_ASKED: &str = "--witnesses is given without --witness and --need";
+
 // The message if an interval is given, and no entries come while the log is served.
 const OF_WHAT_COMES: &str = "--interval is given with --follow or --add alone";
 
@@ -91,6 +94,8 @@ const SERVE: Words = Words {
                 "witness" "VKEY=URL" Kind::Texts => "One that is asked to cosign; @FILE=URL, too";
                 "need" "N" Kind::Number(0, u64::MAX)
                     => "How many must have cosigned (default: all)";
+                "witnesses" "FILE" Kind::Path
+                    => "In place of these two: a policy, whose quorum is asked";
             ],
         },
         SERVER,
@@ -192,6 +197,9 @@ fn place_refusal(options: &ArgMatches<'_>) -> Option<&'static str> {
 fn serve_refusal(options: &ArgMatches<'_>) -> Option<&'static str> {
     if !has_log_key(options) {
         return Some(EITHER_KEY);
+    }
+    if is_given(options, "witnesses") {
+        return Some(ONE_ASKED);
     }
     place_refusal(options)
         .or(coming_refusal(options))
