@@ -21,7 +21,7 @@ fn push_witness(
     let Some(url) = witness.url else {
         return Err(KeyTextFault::Quorum(String::from_str(alloc, path)?));
     };
-    let key = write_verifier_key(alloc, alloc, &witness.key)?;
+    let key = write_verifier_key(alloc, &witness.key)?;
     words.push(String::from_str(alloc, "--witness")?)?;
     words.push(format!(in alloc; "{key}={url}")?)?;
     Ok(())

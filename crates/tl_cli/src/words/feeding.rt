@@ -39,7 +39,7 @@ const FEED: Words = Words {
                 "need" "N" Kind::Number(0, u64::MAX)
                     => "How many of them must cosign (default: all)";
                 "policy" "FILE" Kind::Path
-                    => "In place of --key and these three: a policy (C2SP tlog-policy)";
+                    => "In place of --key and these three: a policy";
                 "timeout" "N" Kind::Number(1, 86_400) => TIMEOUT_OF_ONE;
             ],
         },

@@ -43,7 +43,7 @@ const FETCH: Words = Words {
                 "need" "N" Kind::Number(0, u64::MAX)
                     => "How many witnesses must have cosigned (default: all)";
                 "policy" "FILE" Kind::Path
-                    => "In place of these three: a policy (C2SP tlog-policy)";
+                    => "In place of these three: a policy";
                 "fresh" "SECONDS" Kind::Number(0, u64::MAX)
                     => "Refuse what no witness cosigned since then";
                 "state" "FILE" Kind::Path => "The checkpoint that was trusted last";

@@ -95,7 +95,7 @@ const SERVE: Words = Words {
                 "need" "N" Kind::Number(0, u64::MAX)
                     => "How many must have cosigned (default: all)";
                 "witnesses" "FILE" Kind::Path
-                    => "In place of these two: a policy, whose quorum is asked";
+                    => "In place of these two: the quorum of a policy";
             ],
         },
         SERVER,
