@@ -74,16 +74,16 @@ IsLineOfRun job BadKeyFile text = IsLineAt (file_of job) place.File (codes "bad 
 IsLineOfRun job (NothingThere place) text = IsLineAt (base_of job place) place (nothing_words place) text
 IsLineOfRun job other text = text ≡ line_or_none (fault_text other)
 
--- the line of a fault of the file of the logs
-abbrev pub logs_line : Option Bytes → Bytes → Bytes
-logs_line None words = line (codes "tlog: " ++ codes "logs" ++ codes ": " ++ words)
-logs_line (Some path) words = line (codes "tlog: " ++ path ++ codes ": " ++ words)
+-- the line of a fault with these words, at a path, if there is one
+abbrev pub line_under : Option Bytes → Bytes → Bytes
+line_under None words = line (codes "tlog: " ++ codes "file" ++ codes ": " ++ words)
+line_under (Some path) words = line (codes "tlog: " ++ path ++ codes ": " ++ words)
 
 -- the line of a fault of `witness`
 abbrev pub IsLineOfWitness : Job → WitnessFault → Bytes → Type 0
 IsLineOfWitness job (why.Run other) text = IsLineOfRun job other text
-IsLineOfWitness job (why.LogsFile other) text = text ≡ logs_line (logs_file job) (device_words other)
-IsLineOfWitness job (why.Logs other) text = text ≡ logs_line (logs_file job) (logs_words other)
+IsLineOfWitness job (why.LogsFile other) text = text ≡ line_under (logs_file job) (device_words other)
+IsLineOfWitness job (why.Logs other) text = text ≡ line_under (logs_file job) (logs_words other)
 
 -- the line of a fault of the key that signs requests to a bucket, with the reason if its file can't be read
 abbrev pub credentials_line : Option Bytes → Option DeviceFault → Bytes
@@ -110,11 +110,6 @@ abbrev pub IsLineOfFetch : Job → FetchFault → Bytes → Type 0
 IsLineOfFetch job (fetch.Run other) text = IsLineOfRun job other text
 IsLineOfFetch job (fetch.BadAddress which) text = text ≡ address_line (address_of job which)
 IsLineOfFetch job other text = text ≡ line_or_none (fetch_text other)
-
--- the line of a fault with these words, at a path, if there is one
-abbrev pub line_under : Option Bytes → Bytes → Bytes
-line_under None words = line (codes "tlog: " ++ codes "file" ++ codes ": " ++ words)
-line_under (Some path) words = line (codes "tlog: " ++ path ++ codes ": " ++ words)
 
 -- the line of a fault of `verify`, `prove` or `submit`, if it has one: of a file or an address, which is named, or
 -- of another kind

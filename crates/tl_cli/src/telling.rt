@@ -8,7 +8,7 @@ ghost use Rattle.tl_bucket.specs.FaultWords.{bucket_words};
 ghost use Rattle.tl_run.specs.Faults.{nothing_words};
 ghost use Rattle.tl_run.specs.declared.place.Place.TheVariants.{Log};
 ghost use Rattle.tl_cli.specs.Named.{address_of, base_of, credentials_of, log_of, logs_file, new_key_of};
-ghost use Rattle.tl_cli.specs.Told.{IsLineAt, IsLineOf, IsLineOfFetch, IsLineOfProve, IsLineOfRun, IsLineOfWitness, IsWhere, TellsFault, Wrote, address_line, address_words, credentials_line, is_secure, key_path, line_or_none, line_under, logs_line, resource_of};
+ghost use Rattle.tl_cli.specs.Told.{IsLineAt, IsLineOf, IsLineOfFetch, IsLineOfProve, IsLineOfRun, IsLineOfWitness, IsWhere, TellsFault, Wrote, address_line, address_words, credentials_line, is_secure, key_path, line_or_none, line_under, resource_of};
 
 use crate::fault::{CommandFault, KeyFile};
 use crate::job::Job;
@@ -134,13 +134,18 @@ fn run_line<A: Allocator + Copy>(
     }
 }
 
-// Returns the line of a fault of the file of the logs.
-fn logs_line<A: Allocator>(alloc: A, job: &Job, words: &str) -> Result<String<A>, AllocError>
-    ensures { IfOk result (λ text. string_bytes text ≡ logs_line (logs_file job.now) words.now) }
+// Returns the line of a fault with these words, at a path, if there is one.
+fn line_under<A: Allocator>(
+    alloc: A,
+    path: Option<&str>,
+    words: &str,
+) -> Result<String<A>, AllocError>
+    ensures { IfOk result (λ text. string_bytes text
+        ≡ line_under (option_map (λ s. s.now) path.entry) words.now) }
 {
-    match logs_file(job) {
-        None => line_at(alloc, "logs", words),
+    match path {
         Some(path) => line_at(alloc, path, words),
+        None => line_at(alloc, "file", words),
     }
 }
 
@@ -156,11 +161,11 @@ fn witness_line<A: Allocator + Copy>(
         WitnessFault::Run(fault) => run_line(alloc, job, fault),
         WitnessFault::LogsFile(why) => {
             let words = format!(in alloc; "{why}")?;
-            logs_line(alloc, job, words.as_str())
+            line_under(alloc, logs_file(job), words.as_str())
         }
         WitnessFault::Logs(why) => {
             let words = format!(in alloc; "{why}")?;
-            logs_line(alloc, job, words.as_str())
+            line_under(alloc, logs_file(job), words.as_str())
         }
     }
 }
@@ -261,21 +266,6 @@ fn fetch_line<A: Allocator + Copy>(
         FetchFault::Run(fault) => run_line(alloc, job, fault),
         FetchFault::BadAddress(which) => address_line(alloc, job, *which),
         _ => whole_line(alloc, fetch_fault_line(alloc, fault)?),
-    }
-}
-
-// Returns the line of a fault with these words, at a path, if there is one.
-fn line_under<A: Allocator>(
-    alloc: A,
-    path: Option<&str>,
-    words: &str,
-) -> Result<String<A>, AllocError>
-    ensures { IfOk result (λ text. string_bytes text
-        ≡ line_under (option_map (λ s. s.now) path.entry) words.now) }
-{
-    match path {
-        Some(path) => line_at(alloc, path, words),
-        None => line_at(alloc, "file", words),
     }
 }
 

@@ -1,7 +1,7 @@
 -- The first cosignature by a key.
-use Rattle.std.proofs.Common.{◌≡◌, ℕ, ◌+◌, ◌<◌, ◌≤◌, List, [], ◌∷◌, ◌++◌, length, get_or, drop, map, take, refl, sym, ap, subst, ◌∙◌, Option, None, Some, Result, Ok, Err, inl, inr, arith}
+use Rattle.std.proofs.Common.{◌≡◌, ℕ, ◌+◌, ◌<◌, ◌≤◌, List, [], ◌∷◌, ◌++◌, length, get_or, drop, map, take, sym, ap, subst, ◌∙◌, Option, None, Result, Ok, Err, inr, arith}
 use Rattle.std.specs.Prelude.{IfOk}
-use Rattle.std.proofs.lemmas.List.{take_all, map_more}
+use Rattle.std.proofs.lemmas.List.{map_more}
 use Rattle.std.specs.List.{AllZip}
 use Rattle.tl_key.specs.NoteKey.{PublicKey, verifier_key}
 use Rattle.tl_note.specs.Note.{Signature}
@@ -15,14 +15,7 @@ pub list_is : {X : Type 0} (xs rest : List X) (first : X) → 1 ≤ length xs �
 list_is [] rest first some read others = absurd (omega (arith, some))
 list_is (x ∷ xs) rest first some read others = ap (λ y. y ∷ xs) (sym read) ∙ ap (λ ys. first ∷ ys) (sym others)
 
-pub no_lines : (text : List ℕ) (key : PublicKey) (lines : List Signature) → length lines < 1 → IsFirstTime text key lines None
-no_lines text key [] none = refl
-no_lines text key (line ∷ lines) none = absurd (omega (arith, none))
-
 module _ (text : List ℕ) (key : PublicKey) (lines rest : List Signature) (line : Signature) (is : lines ≡ line ∷ rest) where
-  pub line_found : (time : ℕ) → ChecksCosignature text (verifier_key key) line (Some time) → IsFirstTime text key lines (Some time)
-  line_found time found = subst (λ (ls : List Signature). IsFirstTime text key ls (Some time)) (sym is) (inl (time, found, refl))
-
   pub line_missed : (time : Option ℕ) → ChecksCosignature text (verifier_key key) line None → IsFirstTime text key rest time → IsFirstTime text key lines time
   line_missed time none later = subst (λ (ls : List Signature). IsFirstTime text key ls time) (sym is) (inr (none, later))
 
@@ -50,8 +43,3 @@ times_more text lines witnesses place w times more time less read are is put =
     subst (λ (ws : List WitnessTerm). AreTimes text lines ws more) (sym longer)
     (subst (λ (ts : List (Option ℕ)). AreTimes text lines (before ++ witness_term w ∷ []) ts) (sym put)
     (zip_push (λ v t. IsFirstTime text v.key lines t) before times (witness_term w) time are is))
-
--- all of them
-pub times_all : (text : List ℕ) (lines : List Signature) (witnesses : List PolicyWitness) (place : ℕ) (times : List (Option ℕ))
-    → length witnesses ≤ place → AreTimes text lines (map witness_term (take place witnesses)) times → AreTimes text lines (map witness_term witnesses) times
-times_all text lines witnesses place times all are = subst (λ (ws : List PolicyWitness). AreTimes text lines (map witness_term ws) times) (take_all place witnesses all) are

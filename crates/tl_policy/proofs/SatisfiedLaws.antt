@@ -1,10 +1,9 @@
 -- Which groups of a policy are satisfied, each by what stands before it.
-use Rattle.std.proofs.Common.{◌≡◌, ℕ, zero, suc, ◌+◌, ◌<◌, ◌≤◌, Bool, true, false, cond, List, [], ◌∷◌, ◌++◌, length, get_or, map, take, refl, sym, ap, ◌∙◌, arith, vec_items, Option, Some}
+use Rattle.std.proofs.Common.{◌≡◌, ℕ, zero, suc, ◌+◌, ◌<◌, ◌≤◌, Bool, true, false, List, [], ◌∷◌, ◌++◌, length, get_or, map, take, refl, sym, ap, ◌∙◌, arith, vec_items, Option, Some}
 use Rattle.std.specs.Prelude.{count_by, nat_le}
 use Rattle.std.specs.List.{fold}
 use Rattle.std.specs.Option.{option_map_or}
-use Rattle.std.proofs.lemmas.List.{length-append, length-map, length-take, take-take, take_at, get_or-map, get_or-take, get_or_at, get_or_past, take_all}
-use Rattle.std.proofs.lemmas.List.Sums.{sum_by_more}
+use Rattle.std.proofs.lemmas.List.{length-append, length-map, take-take, take_at, get_or-map, get_or-take, get_or_at, take_all}
 use Rattle.tl_policy.specs.declared.policy.Member.{Member}
 use Rattle.tl_policy.specs.declared.policy.PolicyGroup.{PolicyGroup}
 use Rattle.tl_policy.specs.Terms.{GroupTerm, Terms, group_term}
@@ -55,13 +54,6 @@ length_groups set earlier (g ∷ groups) =
 
 -- ---- as it is found
 
--- one member more is counted
-pub count_next : {X : Type 0} (p : X → Bool) (xs : List X) (i count : ℕ) (x : X) (b : Bool) → i < length xs → x ≡ get_or xs i x → b ≡ p x → count ≡ count_by p (take i xs)
-    → count + cond b 1 0 ≡ count_by p (take (i + 1) xs)
-count_next p xs i count x b less read is so =
-    ap (λ (n : ℕ). n + cond b 1 0) so ∙ ap (λ (c : Bool). count_by p (take i xs) + cond c 1 0) (is ∙ ap p read)
-    ∙ sym (sum_by_more (λ y. cond (p y) 1 0) xs i x less)
-
 -- the group at a place of memory
 pub group_result : {A : Type 0} (set : List Bool) (groups : List (PolicyGroup A)) (place count : ℕ) (group : PolicyGroup A) (r : Bool) → place < length groups → group ≡ get_or groups place group
     → count ≡ count_by (is_member_satisfied set (take place (satisfied_groups set (map group_term groups)))) (vec_items group.members) → r ≡ nat_le group.threshold count
@@ -72,14 +64,6 @@ group_result {A} set groups place count group r less read counted is =
     is ∙ ap (λ (n : ℕ). nat_le group.threshold n) counted
     ∙ ap (λ (g : GroupTerm). is_group_satisfied set (take place held) g) term
     ∙ sym (group_at set (map group_term groups) place (group_term group) (omega (arith, less, length-map groups (group_term {A = A}))))
-
--- a group that stands before a place
-pub before_place : (held : List Bool) (before place : ℕ) (r : Bool) → place < before → r ≡ get_or held place false → r ≡ get_or (take before held) place false
-before_place held before place r less is = is ∙ sym (get_or-take before held place false less)
-
--- one that doesn't
-pub past_place : (held : List Bool) (before place : ℕ) → before ≤ place → false ≡ get_or (take before held) place false
-past_place held before place past = sym (get_or_past (take before held) place false (omega (arith, past, length-take before held)))
 
 -- all groups stand before their number
 pub all_before : {A : Type 0} (set : List Bool) (groups : List (PolicyGroup A)) (count : ℕ) (m : Member) (r : Bool) → length groups ≤ count

@@ -29,7 +29,8 @@ signer_of p lines = position (has_line lines) p.logs
 abbrev pub is_signed : Bytes → List Signature → Key → Bool
 is_signed text lines key = option_map_or (λ line. key.accepts text line.bytes) (find (λ line. is_of line key) lines) false
 
--- the bytes are the note of this text and these lines, and this log of the policy is the first of whose key there is one
+-- the bytes are the note of this text and these lines, and this log of the policy is the first of whose key there is
+-- one
 pub record IsOfLog (p : Terms) (bytes text : Bytes) (lines : List Signature) (place : ℕ) (log : LogTerm) : Type 0 where
   pub noted : Note bytes text lines
   pub first : signer_of p lines ≡ Some place

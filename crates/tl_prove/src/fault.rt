@@ -14,7 +14,7 @@ use tl_policy::{PolicyFault, TrustFault};
 use tl_run::{Place, RunFault, exit_of};
 
 /// A file that the options name.
-#[derive(Clone, Copy, Debug, PartialEq, Eq)]
+#[derive(Clone, Copy, Debug)]
 pub enum NamedFile {
     /// That of the policy.
     Policy,

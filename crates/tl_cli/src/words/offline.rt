@@ -33,6 +33,17 @@ const NAME: &str = "With --sha256: a name in the entry";
 
 const EXTRA: &str = "The file of data to put into the proof";
 
+// The words of an entry.
+const GIVEN: Group = Group {
+    heading: "Which entry, one of these",
+    words: words![
+        "entry" "TEXT" Kind::Text => ENTRY;
+        "entry-file" "FILE" Kind::Path => ENTRY_FILE;
+        "sha256" "FILE" Kind::Path => SHA256;
+        "name" "NAME" Kind::Text => NAME;
+    ],
+};
+
 // The seconds until a proof, if they aren't given.
 const PATIENCE: u64 = 60;
 
@@ -84,15 +95,7 @@ const VERIFY: Words = Words {
                 "policy" "FILE" Kind::RequiredPath => POLICY;
             ],
         },
-        Group {
-            heading: "Which entry, one of these",
-            words: words![
-                "entry" "TEXT" Kind::Text => ENTRY;
-                "entry-file" "FILE" Kind::Path => ENTRY_FILE;
-                "sha256" "FILE" Kind::Path => SHA256;
-                "name" "NAME" Kind::Text => NAME;
-            ],
-        },
+        GIVEN,
         Group {
             heading: "What is done with the proof",
             words: words![
@@ -119,15 +122,7 @@ const SUBMIT: Words = Words {
                 "policy" "FILE" Kind::RequiredPath => POLICY;
             ],
         },
-        Group {
-            heading: "Which entry, one of these",
-            words: words![
-                "entry" "TEXT" Kind::Text => ENTRY;
-                "entry-file" "FILE" Kind::Path => ENTRY_FILE;
-                "sha256" "FILE" Kind::Path => SHA256;
-                "name" "NAME" Kind::Text => NAME;
-            ],
-        },
+        GIVEN,
         Group {
             heading: "How it is done",
             words: words![

@@ -171,6 +171,8 @@ With --witness each checkpoint is kept in the folder as a proposal, sent to the
 witness (C2SP tlog-witness), and shown once --need of them have cosigned it.
 Until then what was shown before stays. Why a witness hasn't cosigned is
 reported, 'witness NAME: ..', and it is asked again 1 to 60 seconds later.
+--witnesses names them by a policy (C2SP tlog-policy) whose quorum is a witness
+or a group of witnesses, each with a URL: so many of the group are needed.
 
 Exit status: 0 done; 1 refused (no log there, or one with --new, a bad key, a
 bad origin, input too large, an entry too long, fewer lines than the note's
@@ -198,7 +200,8 @@ One log, --origin, is known by --log-key or, for demonstrations, by --secret.
 With --logs the logs are those of a file that is read once, at the start: a line
 for each key, the text of a verifier key, for the log of its name, or a log's
 name, a space and that text. Empty lines and those that begin with '#' are
-passed over. The witness cosigns by the key in the file of --key, as
+passed over. Or the file is a list as logs are published, 'logs/v0', with lines
+'vkey KEY' and 'origin NAME'. The witness cosigns by the key in the file of --key, as
 'tlog keygen --cosigner' prints it, or, for demonstrations, by --name and
 --witness-secret.
 
