@@ -1,14 +1,14 @@
-//! Words whose texts are in files: `@FILE` stands for the public key that the file has, and `serve --witnesses FILE` for
-//! the witnesses of a policy.
+//! Words whose texts are in files: `@FILE` stands for the public key that the file has, and the FILE of
+//! `serve --witnesses FILE` for the policy.
 
 ghost use Rattle.std.specs.Prelude.{◌≡◌, ◌⊎◌};
 
-use crate::policy_words::{WITNESSES, push_policy};
+use crate::policy_words::can_be_satisfied;
 use std::alloc::{AllocError, AllocFailed, Global};
 use std::fs::Files;
 use std::io::Write;
 use tl_device::{Counted, write_whole};
-use tl_prove::{ProveFault, prove_exit_of};
+use tl_prove::{ProveFault, policy_of, policy_text, prove_exit_of};
 use tl_run::{RunFault, read_file};
 
 /// Why the text of a key isn't read from its file.
@@ -18,7 +18,7 @@ pub(crate) enum KeyTextFault {
     Unread(String, RunFault),
     /// The file at this path can't be read as a policy.
     Policy(String, ProveFault),
-    /// The quorum of the policy at this path isn't a witness, or a group of witnesses, with URLs.
+    /// The witnesses with a URL of the policy at this path can't satisfy its quorum.
     Quorum(String),
     /// Allocation failed.
     OutOfMemory,
@@ -104,50 +104,45 @@ fn word_of<H: Files>(
     }
 }
 
-// Reports whether a word says by itself who is asked to cosign.
-fn asks(word: &String) -> bool {
-    let option = match word.split_once('=') {
-        Some((option, _)) => option,
-        None => word.as_str(),
+// Returns the text of a policy's file. Fails with `Quorum` if its witnesses that have a URL can't satisfy the quorum.
+fn policy_at<H: Files>(rt: &H, alloc: Global, path: &str) -> Result<String, KeyTextFault> {
+    let text = match policy_text(rt, alloc, path) {
+        Ok(text) => text,
+        Err(fault) => return Err(KeyTextFault::Policy(String::from_str(alloc, path)?, fault)),
     };
-    option == "--witness" || option == "--need"
-}
-
-// Returns the path in a word that is the option of a policy's file with its value behind an equals sign.
-fn policy_in(word: &str) -> Option<&str> {
-    match word.split_once('=') {
-        Some((option, path)) if option == WITNESSES => Some(path),
-        _ => None,
+    match policy_of(alloc, text.as_str()) {
+        Ok(policy) if can_be_satisfied(alloc, &policy)? => {}
+        Ok(_) => return Err(KeyTextFault::Quorum(String::from_str(alloc, path)?)),
+        Err(fault) => return Err(KeyTextFault::Policy(String::from_str(alloc, path)?, fault)),
     }
+    Ok(text)
 }
 
-// Returns the words of a command with those that a policy's file stands for, unless others say who is asked, too.
+// Returns the words of `serve` with the text of a policy in place of its file.
 fn with_policy<H: Files>(
     rt: &H,
     alloc: Global,
     words: Vec<String>,
 ) -> Result<Vec<String>, KeyTextFault> {
-    if words.iter().any(|word| asks(word)) {
-        return Ok(words);
-    }
     let mut given = Vec::new(alloc);
     let mut is_path = false;
     for word in words {
+        let word = word.as_str();
         if is_path {
-            let _ = given.pop();
-            push_policy(rt, alloc, word.as_str(), &mut given)?;
-        } else if let Some(path) = policy_in(word.as_str()) {
-            push_policy(rt, alloc, path, &mut given)?;
+            given.push(policy_at(rt, alloc, word)?)?;
+        } else if let Some(path) = word.strip_prefix("--witnesses=") {
+            let text = policy_at(rt, alloc, path)?;
+            given.push(format!(in alloc; "--witnesses={text}")?)?;
         } else {
-            given.push(String::from_str(alloc, word.as_str())?)?;
+            given.push(String::from_str(alloc, word)?)?;
         }
-        is_path = word.as_str() == WITNESSES;
+        is_path = !is_path && word == "--witnesses";
     }
     Ok(given)
 }
 
 /// Returns the words of a command, the program's name first, with the text of a file in place of each `@FILE` that
-/// stands for a public key, and of `serve` with the witnesses of a policy in place of `--witnesses FILE`.
+/// stands for a public key, and of `serve` with the text of a policy in place of its file.
 pub(crate) fn with_key_texts<H: Files>(
     rt: &H,
     alloc: Global,
@@ -181,7 +176,7 @@ fn unread_line(alloc: Global, fault: &KeyTextFault) -> Result<String, AllocError
         KeyTextFault::Unread(path, _) => format!(in alloc; "tlog: {path}: bad key\n"),
         KeyTextFault::Policy(path, why) => format!(in alloc; "tlog: {path}: {why}\n"),
         KeyTextFault::Quorum(path) => {
-            format!(in alloc; "tlog: {path}: quorum isn't of witnesses with URLs\n")
+            format!(in alloc; "tlog: {path}: witnesses with URLs don't make a quorum\n")
         }
     }
 }

@@ -1,88 +1,70 @@
-//! The witnesses of a policy as words: `serve --witnesses FILE` stands for `--witness KEY=URL` of each witness of the
-//! policy's quorum, and for `--need`.
+//! The witnesses that a policy names, for `serve --witnesses FILE`.
 
-use crate::key_texts::KeyTextFault;
-use std::alloc::Global;
-use std::fs::Files;
+use std::alloc::{AllocError, Global};
 use tl_key::write_verifier_key;
-use tl_policy::{Member, Policy, PolicyWitness};
-use tl_prove::{policy_of, policy_text};
+use tl_policy::{Member, Policy, PolicyFault, parse_policy};
+use tl_serve::AskedWitness;
 
-/// The option that takes the file of a policy.
-pub(crate) const WITNESSES: &str = "--witnesses";
-
-// Appends the words of a witness. It fails with `Quorum` if the witness has no URL.
-fn push_witness(
-    alloc: Global,
-    path: &str,
-    witness: &PolicyWitness<'_>,
-    words: &mut Vec<String>,
-) -> Result<(), KeyTextFault> {
-    let Some(url) = witness.url else {
-        return Err(KeyTextFault::Quorum(String::from_str(alloc, path)?));
-    };
-    let key = write_verifier_key(alloc, &witness.key)?;
-    words.push(String::from_str(alloc, "--witness")?)?;
-    words.push(format!(in alloc; "{key}={url}")?)?;
-    Ok(())
+/// Who is asked to cosign: witnesses, how many are needed at least, and the policy that they must satisfy, too.
+#[derive(Drop)]
+pub(crate) struct AskedByPolicy {
+    pub(crate) witnesses: Vec<AskedWitness>,
+    pub(crate) need: u64,
+    pub(crate) quorum: Option<String>,
 }
 
-// Appends the words of a member of the quorum. It fails with `Quorum` if that is a group.
-fn push_member(
-    alloc: Global,
-    path: &str,
-    policy: &Policy<'_, Global>,
-    member: Member,
-    words: &mut Vec<String>,
-) -> Result<(), KeyTextFault> {
-    let Member::Witness(place) = member else {
-        return Err(KeyTextFault::Quorum(String::from_str(alloc, path)?));
-    };
-    match policy.witnesses.get(place) {
-        Some(witness) => push_witness(alloc, path, witness, words),
-        None => Ok(()),
+// Returns the witnesses of a policy that have a URL.
+fn with_urls(alloc: Global, policy: &Policy<'_, Global>) -> Result<Vec<AskedWitness>, AllocError> {
+    let mut asked = Vec::new(alloc);
+    for witness in policy.witnesses.as_slice() {
+        if let Some(url) = witness.url {
+            asked.push(AskedWitness {
+                key: write_verifier_key(alloc, &witness.key)?,
+                url: String::from_str(alloc, url)?,
+            })?;
+        }
     }
+    Ok(asked)
 }
 
-// Appends the words of the members of a group, and of how many of them have to cosign.
-fn push_group(
+/// Reports whether the witnesses of a policy that have a URL can satisfy its quorum.
+pub(crate) fn can_be_satisfied(
     alloc: Global,
-    path: &str,
     policy: &Policy<'_, Global>,
-    place: usize,
-    words: &mut Vec<String>,
-) -> Result<(), KeyTextFault> {
-    let Some(group) = policy.groups.get(place) else {
-        return Ok(());
-    };
-    for member in group.members.as_slice() {
-        push_member(alloc, path, policy, *member, words)?;
+) -> Result<bool, AllocError> {
+    let mut set = Vec::new(alloc);
+    for witness in policy.witnesses.as_slice() {
+        set.push(witness.url.is_some())?;
     }
-    words.push(String::from_str(alloc, "--need")?)?;
-    let need = group.threshold;
-    words.push(format!(in alloc; "{need}")?)?;
-    Ok(())
+    Ok(policy.is_satisfied(set.as_slice()))
 }
 
-/// Appends the words that a policy's file stands for: none if its quorum is none. It fails with `Quorum` if the quorum
-/// is neither a witness nor a group of witnesses, or one of them has no URL.
-pub(crate) fn push_policy<H: Files>(
-    rt: &H,
-    alloc: Global,
-    path: &str,
-    words: &mut Vec<String>,
-) -> Result<(), KeyTextFault> {
-    let text = match policy_text(rt, alloc, path) {
-        Ok(text) => text,
-        Err(fault) => return Err(KeyTextFault::Policy(String::from_str(alloc, path)?, fault)),
-    };
-    let policy = match policy_of(alloc, text.as_str()) {
-        Ok(policy) => policy,
-        Err(fault) => return Err(KeyTextFault::Policy(String::from_str(alloc, path)?, fault)),
-    };
+// Returns how many witnesses a quorum needs at least.
+fn least_of(policy: &Policy<'_, Global>) -> u64 {
     match policy.quorum {
-        None => Ok(()),
-        Some(Member::Group(place)) => push_group(alloc, path, &policy, place, words),
-        Some(member) => push_member(alloc, path, &policy, member, words),
+        None => 0,
+        Some(Member::Witness(_)) => 1,
+        Some(Member::Group(place)) => match policy.groups.get(place) {
+            Some(group) => group.threshold as u64,
+            None => 1,
+        },
     }
+}
+
+/// Returns who is asked under the policy that a text is: each of its witnesses that has a URL. If its quorum is none,
+/// nobody is.
+pub(crate) fn asked_by(alloc: Global, text: &str) -> Result<AskedByPolicy, PolicyFault> {
+    let policy = parse_policy(alloc, alloc, text)?;
+    if policy.quorum.is_none() {
+        return Ok(AskedByPolicy {
+            witnesses: Vec::new(alloc),
+            need: 0,
+            quorum: None,
+        });
+    }
+    Ok(AskedByPolicy {
+        witnesses: with_urls(alloc, &policy)?,
+        need: least_of(&policy),
+        quorum: Some(String::from_str(alloc, text)?),
+    })
 }

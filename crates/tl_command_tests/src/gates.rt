@@ -68,6 +68,7 @@ fn serve_options(alloc: Global) -> Result<ServeOptions, AllocError> {
         keeps_partials: false,
         witnesses: Vec::new(alloc),
         need: 0,
+        quorum: None,
     })
 }
 

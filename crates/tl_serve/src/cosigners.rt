@@ -13,7 +13,8 @@ use tl_append::{AsksCosigners, ProposalStore};
 use tl_archive::Shelf;
 use tl_device::Counted;
 use tl_feed::{Ballot, BallotEvent, HttpWitness, LogIdentity, ShelfReader, Unasked, ask_in_rounds};
-use tl_note::Verifier;
+use tl_note::{Verifier, parse_note};
+use tl_policy::parse_policy;
 use tl_run::{RunFault, print_text};
 use tl_source::Url;
 
@@ -26,7 +27,27 @@ pub(crate) struct Proposer<'b, 'w, H, L> {
     pub(crate) ballot: &'b Ballot,
     pub(crate) asked: &'b [AskedWitness],
     pub(crate) need: usize,
+    /// The text of the policy that they must satisfy, too.
+    pub(crate) quorum: Option<&'b str>,
     pub(crate) out: Counted<SharedWriter<'b, 'w, H, L>>,
+}
+
+// Reports whether the lines behind a note satisfy the quorum of the policy that a text is.
+fn satisfy(alloc: Global, quorum: &str, note: &str, lines: &str) -> Result<bool, RunFault> {
+    let Ok(policy) = parse_policy(alloc, alloc, quorum) else {
+        return Err(RunFault::Operator);
+    };
+    let mut whole = String::from_str(alloc, note)?;
+    whole.push_str(lines)?;
+    let Ok(view) = parse_note(alloc, whole.as_str()) else {
+        return Err(RunFault::Operator);
+    };
+    let times = policy.cosigned_by(alloc, view.text, view.signatures.as_slice())?;
+    let mut set = Vec::new(alloc);
+    for time in times.as_slice() {
+        set.push(time.is_some())?;
+    }
+    Ok(policy.is_satisfied(set.as_slice()))
 }
 
 // Returns the name that the text of a verifier key begins with.
@@ -47,16 +68,36 @@ impl<H: Wait, L: Write> Proposer<'_, '_, H, L> {
         let line = format!(in self.alloc; "witness {name}: {why}\n")?;
         print_text(&mut self.out, line.as_bytes())
     }
+
+    // Waits until this many witnesses have cosigned the proposed note, and returns their lines.
+    fn lines_of(&mut self, need: usize) -> Result<String, RunFault> {
+        for _ in 0..u64::MAX {
+            match self.ballot.wait(self.rt, need)? {
+                BallotEvent::Enough(lines) => return Ok(lines),
+                BallotEvent::Unasked(place, why) => self.tell(place, why)?,
+                BallotEvent::Ended => break,
+            }
+        }
+        Err(RunFault::Operator)
+    }
+
+    // Reports whether lines behind a note satisfy the policy, if there is one.
+    fn is_enough(&self, note: &str, lines: &str) -> Result<bool, RunFault> {
+        match self.quorum {
+            Some(quorum) => satisfy(self.alloc, quorum, note, lines),
+            None => Ok(true),
+        }
+    }
 }
 
 impl<H: Wait, L: Write> AsksCosigners for Proposer<'_, '_, H, L> {
     fn ask<P: ProposalStore>(&mut self, _store: &P, note: &str) -> Result<String, RunFault> {
-        self.ballot.propose(self.rt, note)?;
-        for _ in 0..u64::MAX {
-            match self.ballot.wait(self.rt, self.need)? {
-                BallotEvent::Enough(lines) => return Ok(lines),
-                BallotEvent::Unasked(place, why) => self.tell(place, why)?,
-                BallotEvent::Ended => break,
+        // If as many as are needed don't satisfy the policy, one more is asked for; each answers again at once.
+        for need in self.need..=self.asked.len().max(self.need) {
+            self.ballot.propose(self.rt, note)?;
+            let lines = self.lines_of(need)?;
+            if self.is_enough(note, lines.as_str())? {
+                return Ok(lines);
             }
         }
         Err(RunFault::Operator)

@@ -96,6 +96,8 @@ pub struct ServeOptions {
     pub witnesses: Vec<AskedWitness>,
     /// How many of them must have cosigned a checkpoint before it is shown.
     pub need: u64,
+    /// The text of a policy whose quorum those that cosigned must satisfy, too (C2SP tlog-policy).
+    pub quorum: Option<String>,
 }
 
 /// The options of `witness`.

@@ -150,6 +150,7 @@ fn serve_in<
         ballot,
         asked: options.witnesses.as_slice(),
         need: usize::try_from(options.need).unwrap_or(usize::MAX),
+        quorum: options.quorum.as_deref(),
         out: Counted::new(SharedWriter { rt, out }),
     };
     let keeps = options.keeps_partials;

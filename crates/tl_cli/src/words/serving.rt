@@ -11,8 +11,10 @@ use super::table::{Group, Kind, Word, Words};
 use super::{EITHER_KEY, WordsFault, texts};
 use crate::in_bucket::ServeFromOptions;
 use crate::job::Job;
+use crate::policy_words::{AskedByPolicy, asked_by};
 use clap::ArgMatches;
 use std::alloc::{AllocError, Global};
+use tl_policy::PolicyFault;
 use tl_serve::{AskedWitness, ServeOptions};
 
 // What an option is if it isn't given.
@@ -160,10 +162,30 @@ fn must_cosign(options: &ArgMatches<'_>) -> u64 {
     }
 }
 
+// Returns who is asked: the witnesses of a policy, if one is given.
+fn asked(alloc: Global, options: &ArgMatches<'_>) -> Result<AskedByPolicy, WordsFault> {
+    let Some(text) = options.get_str("witnesses") else {
+        return Ok(AskedByPolicy {
+            witnesses: all_asked(alloc, options)?,
+            need: must_cosign(options),
+            quorum: None,
+        });
+    };
+    match asked_by(alloc, text) {
+        Ok(asked) => Ok(asked),
+        Err(PolicyFault::OutOfMemory) => Err(WordsFault::OutOfMemory),
+        Err(_) => Err(no_word(alloc)),
+    }
+}
+
 // Returns the message if a text names no witness, or the number of cosignatures doesn't fit the witnesses.
 fn witness_refusal(options: &ArgMatches<'_>) -> Option<&'static str> {
     if !are_pairs(options) {
         return Some(NO_PAIR);
+    }
+    let counts = count_given(options, "witness") > 0 || options.get_one::<u64>("need").is_some();
+    if counts && is_given(options, "witnesses") {
+        return Some(ONE_ASKED);
     }
     let (need, all) = (must_cosign(options), count_given(options, "witness") as u64);
     if need > all && all > 0 {
@@ -189,7 +211,7 @@ fn place_refusal(options: &ArgMatches<'_>) -> Option<&'static str> {
     if options.get_flag("new") && !has_dir && !is_given(options, "bucket") {
         return Some(OF_A_PLACE);
     }
-    let has_witness = count_given(options, "witness") > 0;
+    let has_witness = count_given(options, "witness") > 0 || is_given(options, "witnesses");
     (!has_dir && (of_a_folder || has_witness)).then_some(OF_A_FOLDER)
 }
 
@@ -197,9 +219,6 @@ fn place_refusal(options: &ArgMatches<'_>) -> Option<&'static str> {
 fn serve_refusal(options: &ArgMatches<'_>) -> Option<&'static str> {
     if !has_log_key(options) {
         return Some(EITHER_KEY);
-    }
-    if is_given(options, "witnesses") {
-        return Some(ONE_ASKED);
     }
     place_refusal(options)
         .or(coming_refusal(options))
@@ -225,6 +244,11 @@ fn serve_options(alloc: Global, options: &ArgMatches<'_>) -> Result<ServeOptions
     let takes_posts = options.get_flag("add");
     let unless_given = if takes_posts { INTERVAL } else { 0 };
     let NamedLog { origin, key } = named_log(alloc, options)?;
+    let AskedByPolicy {
+        witnesses,
+        need,
+        quorum,
+    } = asked(alloc, options)?;
     Ok(ServeOptions {
         origin,
         key,
@@ -241,8 +265,9 @@ fn serve_options(alloc: Global, options: &ArgMatches<'_>) -> Result<ServeOptions
         remember: options.get_one::<u64>("remember").unwrap_or(REMEMBER),
         allows_older: options.get_flag("older"),
         keeps_partials: options.get_flag("keep-partials"),
-        witnesses: all_asked(alloc, options)?,
-        need: must_cosign(options),
+        witnesses,
+        need,
+        quorum,
     })
 }
 

@@ -171,8 +171,8 @@ With --witness each checkpoint is kept in the folder as a proposal, sent to the
 witness (C2SP tlog-witness), and shown once --need of them have cosigned it.
 Until then what was shown before stays. Why a witness hasn't cosigned is
 reported, 'witness NAME: ..', and it is asked again 1 to 60 seconds later.
---witnesses names them by a policy (C2SP tlog-policy) whose quorum is a witness
-or a group of witnesses, each with a URL: so many of the group are needed.
+--witnesses names them by a policy (C2SP tlog-policy): each of its witnesses that
+has a URL is asked, and its quorum has to be satisfied.
 
 Exit status: 0 done; 1 refused (no log there, or one with --new, a bad key, a
 bad origin, input too large, an entry too long, fewer lines than the note's
