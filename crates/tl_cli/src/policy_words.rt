@@ -13,11 +13,54 @@ pub(crate) struct AskedByPolicy {
     pub(crate) quorum: Option<String>,
 }
 
-// Returns the witnesses of a policy that have a URL.
+// Returns this many places without a mark.
+fn unmarked(alloc: Global, count: usize) -> Result<Vec<bool>, AllocError> {
+    let mut marks = Vec::new(alloc);
+    for _ in 0..count {
+        marks.push(false)?;
+    }
+    Ok(marks)
+}
+
+// Marks the place of a member.
+fn mark(member: Member, witnesses: &mut [bool], groups: &mut [bool]) {
+    match member {
+        Member::Witness(place) => {
+            if let Some(mark) = witnesses.get_mut(place) {
+                *mark = true;
+            }
+        }
+        Member::Group(place) => {
+            if let Some(mark) = groups.get_mut(place) {
+                *mark = true;
+            }
+        }
+    }
+}
+
+// Returns which witnesses of a policy stand in its quorum. The members of a group have smaller places than its own.
+fn in_quorum(alloc: Global, policy: &Policy<'_, Global>) -> Result<Vec<bool>, AllocError> {
+    let mut witnesses = unmarked(alloc, policy.witnesses.len())?;
+    let mut groups = unmarked(alloc, policy.groups.len())?;
+    if let Some(member) = policy.quorum {
+        mark(member, &mut witnesses, &mut groups);
+    }
+    for place in (0..policy.groups.len()).rev() {
+        if groups.get(place) == Some(&true) {
+            for member in policy.groups[place].members.as_slice() {
+                mark(*member, &mut witnesses, &mut groups);
+            }
+        }
+    }
+    Ok(witnesses)
+}
+
+// Returns the witnesses of a policy's quorum that have a URL.
 fn with_urls(alloc: Global, policy: &Policy<'_, Global>) -> Result<Vec<AskedWitness>, AllocError> {
+    let marks = in_quorum(alloc, policy)?;
     let mut asked = Vec::new(alloc);
-    for witness in policy.witnesses.as_slice() {
-        if let Some(url) = witness.url {
+    for (place, witness) in policy.witnesses.iter().enumerate() {
+        if let (Some(true), Some(url)) = (marks.get(place).copied(), witness.url) {
             asked.push(AskedWitness {
                 key: write_verifier_key(alloc, &witness.key)?,
                 url: String::from_str(alloc, url)?,
@@ -51,8 +94,8 @@ fn least_of(policy: &Policy<'_, Global>) -> u64 {
     }
 }
 
-/// Returns who is asked under the policy that a text is: each of its witnesses that has a URL. If its quorum is none,
-/// nobody is.
+/// Returns who is asked under the policy that a text is: each witness of its quorum that has a URL. If the quorum is
+/// none, nobody is.
 pub(crate) fn asked_by(alloc: Global, text: &str) -> Result<AskedByPolicy, PolicyFault> {
     let policy = parse_policy(alloc, alloc, text)?;
     if policy.quorum.is_none() {

@@ -28,7 +28,8 @@ const BATCH: u64 = 256;
 const ONE_BASE: &str = "--note and --dir are not given together";
 
 // The message if options of a log in a folder are given without a folder.
-const OF_A_FOLDER: &str = "--older, --keep-partials and --witness are given with --dir alone";
+const OF_A_FOLDER: &str =
+    "--older, --keep-partials, --witness and --witnesses are given with --dir alone";
 
 // The message if a bucket is given with a note or a folder.
 const ONE_PLACE: &str = "--note, --dir and --bucket are not given together";

@@ -171,8 +171,8 @@ With --witness each checkpoint is kept in the folder as a proposal, sent to the
 witness (C2SP tlog-witness), and shown once --need of them have cosigned it.
 Until then what was shown before stays. Why a witness hasn't cosigned is
 reported, 'witness NAME: ..', and it is asked again 1 to 60 seconds later.
---witnesses names them by a policy (C2SP tlog-policy): each of its witnesses that
-has a URL is asked, and its quorum has to be satisfied.
+--witnesses names them by a policy (C2SP tlog-policy): each witness of its
+quorum that has a URL is asked, and the quorum has to be satisfied.
 
 Exit status: 0 done; 1 refused (no log there, or one with --new, a bad key, a
 bad origin, input too large, an entry too long, fewer lines than the note's
@@ -201,9 +201,9 @@ With --logs the logs are those of a file that is read once, at the start: a line
 for each key, the text of a verifier key, for the log of its name, or a log's
 name, a space and that text. Empty lines and those that begin with '#' are
 passed over. Or the file is a list as logs are published, 'logs/v0', with lines
-'vkey KEY' and 'origin NAME'. The witness cosigns by the key in the file of --key, as
-'tlog keygen --cosigner' prints it, or, for demonstrations, by --name and
---witness-secret.
+'vkey KEY' and 'origin NAME'. The witness cosigns by the key in the file of
+--key, as 'tlog keygen --cosigner' prints it, or, for demonstrations, by --name
+and --witness-secret.
 
 Exit status: 0 done; 1 refused (no state there, or one with --new, a bad key, a
 bad origin, a bad name, line K of the logs malformed or with a key again,
