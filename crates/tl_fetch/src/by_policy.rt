@@ -166,7 +166,7 @@ fn fetch_with_keys<'s, H: Files<File = File> + HostClient, W: Write, E: Write>(
     });
     let first: Box<dyn Verifier> = Box::new(alloc, keys.key)?;
     let Some(other) = keys.other else {
-        let policy = Policy {
+        let own = Policy {
             origin,
             log: &[first],
             witnesses: &[],
@@ -174,19 +174,10 @@ fn fetch_with_keys<'s, H: Files<File = File> + HostClient, W: Write, E: Write>(
             since: None,
             under,
         };
-        return fetch_as_said(
-            rt,
-            alloc,
-            text,
-            &policy,
-            options,
-            writer,
-            errors,
-            is_terminal,
-        );
+        return fetch_as_said(rt, alloc, text, &own, options, writer, errors, is_terminal);
     };
     let second: Box<dyn Verifier> = Box::new(alloc, other)?;
-    let policy = Policy {
+    let own = Policy {
         origin,
         log: &[first, second],
         witnesses: &[],
@@ -194,16 +185,7 @@ fn fetch_with_keys<'s, H: Files<File = File> + HostClient, W: Write, E: Write>(
         since: None,
         under,
     };
-    fetch_as_said(
-        rt,
-        alloc,
-        text,
-        &policy,
-        options,
-        writer,
-        errors,
-        is_terminal,
-    )
+    fetch_as_said(rt, alloc, text, &own, options, writer, errors, is_terminal)
 }
 
 /// Fetches as `run_fetch` does, under the text of a policy (C2SP tlog-policy) in place of keys: `key`, `other_key`,
