@@ -42,9 +42,9 @@ mod verifying;
 
 pub use accepted::accepted_lines;
 pub use entry::{MOST_DIGESTED, digest_entry, digest_of};
-pub use files::{policy_of, policy_text};
 pub use fault::{NamedFile, ProveFault, Refusal, prove_exit_of};
 pub use fetch_command::{run_feed_by, run_fetch_by};
+pub use files::{policy_of, policy_text};
 pub use options::{
     EntryOptions, PolicyFetchOptions, ProveOptions, ProveRequest, SubmitOptions, VerifyOptions,
 };
