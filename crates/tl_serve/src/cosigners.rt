@@ -1,8 +1,14 @@
 //! The threads that ask witnesses to cosign what a log proposes, and what waits for them.
 
+ghost use Rattle.std.specs.Prelude.{◌≡◌, IfOk, IsTrue, Ok};
+ghost use Rattle.tl_policy.specs.Cosigned.{cosigners};
+ghost use Rattle.tl_policy.specs.ReadPolicy.{ReadsPolicy};
+ghost use Rattle.tl_policy.specs.Terms.{terms_of};
+ghost use Rattle.tl_serve.specs.Inner.Quorums.{AreTimesOf, Satisfies};
+
 use crate::options::AskedWitness;
 use crate::shared_writer::SharedWriter;
-use std::alloc::Global;
+use std::alloc::{AllocError, Global};
 use std::io::Write;
 use std::net::{Net, TcpStream};
 use std::slice;
@@ -13,8 +19,8 @@ use tl_append::{AsksCosigners, ProposalStore};
 use tl_archive::Shelf;
 use tl_device::Counted;
 use tl_feed::{Ballot, BallotEvent, HttpWitness, LogIdentity, ShelfReader, Unasked, ask_in_rounds};
-use tl_note::{Verifier, parse_note};
-use tl_policy::parse_policy;
+use tl_note::{NoteFault, Verifier, parse_note};
+use tl_policy::{Policy, PolicyFault, parse_policy};
 use tl_run::{RunFault, print_text};
 use tl_source::Url;
 
@@ -32,21 +38,60 @@ pub(crate) struct Proposer<'b, 'w, H, L> {
     pub(crate) out: Counted<SharedWriter<'b, 'w, H, L>>,
 }
 
-// Reports whether the lines behind a note satisfy the quorum of the policy that a text is.
-fn satisfy(alloc: Global, quorum: &str, note: &str, lines: &str) -> Result<bool, RunFault> {
-    let Ok(policy) = parse_policy(alloc, alloc, quorum) else {
-        return Err(RunFault::Operator);
+// Returns the policy that a text is. Fails with `Operator` if it is none.
+fn policy_of(alloc: Global, text: &str) -> Result<Policy<'_, Global>, RunFault>
+    ensures { IfOk result (λ p. ReadsPolicy text.now (Ok (terms_of p))) }
+{
+    match parse_policy(alloc, alloc, text) {
+        Ok(policy) => Ok(policy),
+        Err(PolicyFault::OutOfMemory) => Err(RunFault::OutOfMemory),
+        Err(_) => Err(RunFault::Operator),
+    }
+}
+
+// Returns when each witness of a policy cosigned a note. Fails with `Operator` if it is none.
+fn times_of(
+    alloc: Global,
+    policy: &Policy<'_, Global>,
+    note: &str,
+) -> Result<Vec<Option<u64>>, RunFault>
+    ensures { IfOk result (λ times. AreTimesOf note.now (terms_of policy.now) times.items) }
+{
+    let view = match parse_note(alloc, note) {
+        Ok(view) => view,
+        Err(NoteFault::OutOfMemory) => return Err(RunFault::OutOfMemory),
+        Err(_) => return Err(RunFault::Operator),
     };
-    let mut whole = String::from_str(alloc, note)?;
-    whole.push_str(lines)?;
-    let Ok(view) = parse_note(alloc, whole.as_str()) else {
-        return Err(RunFault::Operator);
-    };
-    let times = policy.cosigned_by(alloc, view.text, view.signatures.as_slice())?;
+    match policy.cosigned_by(alloc, view.text, view.signatures.as_slice()) {
+        Ok(times) => Ok(times),
+        Err(_) => Err(RunFault::OutOfMemory),
+    }
+}
+
+// Returns the set of those that have a time.
+fn set_of(alloc: Global, times: &[Option<u64>]) -> Result<Vec<bool>, AllocError>
+    ensures { IfOk result (λ set. set.items ≡ cosigners times.now) }
+{
     let mut set = Vec::new(alloc);
-    for time in times.as_slice() {
+    for time in times {
         set.push(time.is_some())?;
     }
+    Ok(set)
+}
+
+// Reports whether the witnesses that cosigned a note satisfy the quorum of the policy that a text is.
+fn satisfy(alloc: Global, text: &str, note: &str) -> Result<bool, RunFault>
+    ensures { IfOk result (λ met. IsTrue met → Satisfies text.now note.now) }
+{
+    let policy = match policy_of(alloc, text) {
+        Ok(policy) => policy,
+        Err(fault) => return Err(fault),
+    };
+    let times = match times_of(alloc, &policy, note) {
+        Ok(times) => times,
+        Err(fault) => return Err(fault),
+    };
+    let set = set_of(alloc, times.as_slice())?;
     Ok(policy.is_satisfied(set.as_slice()))
 }
 
@@ -84,7 +129,11 @@ impl<H: Wait, L: Write> Proposer<'_, '_, H, L> {
     // Reports whether lines behind a note satisfy the policy, if there is one.
     fn is_enough(&self, note: &str, lines: &str) -> Result<bool, RunFault> {
         match self.quorum {
-            Some(quorum) => satisfy(self.alloc, quorum, note, lines),
+            Some(quorum) => {
+                let mut whole = String::from_str(self.alloc, note)?;
+                whole.push_str(lines)?;
+                satisfy(self.alloc, quorum, whole.as_str())
+            }
             None => Ok(true),
         }
     }
