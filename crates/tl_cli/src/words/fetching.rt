@@ -211,8 +211,9 @@ pub(super) fn fetch_options(
 
 /// Reports whether keys are given, or what belongs to them.
 pub(super) fn has_keys(options: &ArgMatches<'_>) -> bool {
-    let texts = count_given(options, "key") + count_given(options, "witness");
-    texts > 0 || options.get_one::<u64>("need").is_some()
+    count_given(options, "key") > 0
+        || count_given(options, "witness") > 0
+        || options.get_one::<u64>("need").is_some()
 }
 
 // Returns the message if it isn't said who is trusted, or twice, or if the keys don't go together.
