@@ -12,4 +12,3 @@ pub mod KeyLemmas
 pub mod FreshLemmas
 pub mod AddressLemmas
 pub mod JudgingLemmas
-pub mod Policies

@@ -1,7 +1,6 @@
 pub mod Terms
 pub mod Satisfied
 pub mod PolicyText
-pub mod Quorum
 pub mod ReadPolicy
 pub mod Cosigned
 pub mod Need

@@ -3,5 +3,4 @@ pub mod Driven
 pub mod Ends
 pub mod InTurn
 pub mod Lists
-pub mod Proposals
 pub mod Shelves

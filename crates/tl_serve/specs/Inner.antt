@@ -19,3 +19,5 @@ pub
     mod Stating
 pub
     mod Telling
+pub
+    mod Quorums
