@@ -14,7 +14,7 @@ use Rattle.tl_ledger.specs.Opening.{IsNamed, IsOfHeld, IsOfNote, IsStated, found
 use Rattle.tl_client.specs.Trusted.{IsTrusted}
 use Rattle.tl_run.specs.Signing.{LogKey}
 use Rattle.tl_run.specs.declared.keys.LogKey.{LogKey as GivenKey}
-use Rattle.tl_append.specs.Cosigning.{HasQuorum}
+use Rattle.tl_append.specs.Cosigning.{HasEnough}
 use Rattle.tl_append.specs.Inner.Proposals.{IsNewer}
 use Rattle.tl_append.specs.Proposing.{HasProposal, IsNoOlder, IsProposed, IsThere}
 use Rattle.tl_append.specs.Running.{AreLogKeys, HasOwnProposal}
@@ -25,10 +25,10 @@ pub states_size : (note : Bytes) (keys : List Key) (c : checkpoint.Head) (name :
 states_size note keys c name signed same named = (record { size = c.size; root = c.root }, (c, signed, subst (IsNamed keys) same named, refl, refl), refl)
 
 -- enough witnesses cosigned a note
-pub has_quorum : (note : Bytes) (keys witnesses : List Key) (need : ℕ) (c : checkpoint.Head)
+pub has_enough : (note : Bytes) (keys witnesses : List Key) (need : ℕ) (c : checkpoint.Head)
     → IsTrusted note (record { keys = keys; witnesses = witnesses; need = need }) c
-    → HasQuorum (record { witnesses = witnesses; need = need }) note
-has_quorum note keys witnesses need c trusted = inr (keys, c, trusted)
+    → HasEnough (record { witnesses = witnesses; need = need; policy = None }) note
+has_enough note keys witnesses need c trusted = inr (keys, c, trusted)
 
 -- no proposal is kept
 pub none_kept : (MayHave : Option Bytes → Type 0) (keys : List Key) (size : ℕ) → MayHave None → HasProposal MayHave keys size

@@ -1,6 +1,6 @@
 -- Appending batches to a log, each shown under the log's note with the lines of witnesses behind it (C2SP
 -- tlog-cosignature, tlog-witness).
-use Rattle.std.specs.Prelude.{◌≡◌, ℕ, ◌⊎◌, Some, List, [], ◌∷◌, ◌++◌}
+use Rattle.std.specs.Prelude.{◌≡◌, ℕ, ◌⊎◌, true, List, [], ◌∷◌, ◌++◌, Option, None, Some, Ok}
 use Rattle.std.specs.List.{All, flat_map}
 use Rattle.sha2.specs.Sha256.{sha256}
 use Rattle.tl_hash.specs.Bytes.{Bytes}
@@ -8,6 +8,9 @@ use Rattle.tl_note.specs.Key.{Key}
 use Rattle.tl_tile.specs.declared.resource.Resource.TheVariants as resource
 use Rattle.tl_checkpoint.specs.Checkpoint as checkpoint
 use Rattle.tl_client.specs.Trusted.{IsTrusted}
+use Rattle.tl_policy.specs.Quorum.{IsMetBy}
+use Rattle.tl_policy.specs.ReadPolicy.{ReadsPolicy}
+use Rattle.tl_policy.specs.Terms.{Terms}
 use Rattle.tl_log.specs.Histories.{Prefix}
 use Rattle.tl_archive.specs.Complete.{KeptSafe}
 use Rattle.tl_ledger.specs.Keeping.{IsKeeping, published}
@@ -15,10 +18,12 @@ use Rattle.tl_run.specs.Signing.{LogKey, checkpoint_note}
 use Rattle.tl_append.specs.Appending.{Course, IsPutOrNot}
 use Rattle.tl_append.specs.Running.{IsResting, Visit}
 
--- at least `need` of these witnesses must have cosigned what is shown; if it is 0, none has to
+-- at least `need` of these witnesses must have cosigned what is shown; if it is 0, none has to. And those that
+-- cosigned it must satisfy the quorum of the policy that this text is, if there is one
 pub record Quorum : Type 0 where
   pub witnesses : List Key
   pub need : ℕ
+  pub policy : Option Bytes
 
 -- a batch of entries, and the lines of witnesses behind the note of the checkpoint of the log with it
 pub record Turn : Type 0 where
@@ -39,11 +44,20 @@ shown_after key log [] = []
 shown_after key log (t ∷ more) = shown key (log ++ t.batch) t.lines ∷ shown_after key (log ++ t.batch) more
 
 -- the note opens under keys of the log, and at least `need` of the witnesses cosigned it
-abbrev pub HasQuorum : Quorum → Bytes → Type 0
-HasQuorum q note =
+abbrev pub HasEnough : Quorum → Bytes → Type 0
+HasEnough q note =
     (q.need ≡ 0)
     ⊎ ((keys : List Key) × (c : checkpoint.Head)
     × IsTrusted note (record { keys = keys; witnesses = q.witnesses; need = q.need }) c)
+
+-- those that cosigned the note satisfy the policy that a text is, if there is one
+abbrev pub MeetsPolicy : Option Bytes → Bytes → Type 0
+MeetsPolicy None note = Unit {0}
+MeetsPolicy (Some text) note = (policy : Terms) × ReadsPolicy text (Ok policy) × IsMetBy policy note true
+
+-- both
+abbrev pub HasQuorum : Quorum → Bytes → Type 0
+HasQuorum q note = HasEnough q note × MeetsPolicy q.policy note
 
 -- turns were appended and shown, and then these entries put behind the log, which aren't shown: whatever the ledger
 -- kept before, it keeps with all these; whatever a crash leaves at any moment in between is complete for one of the

@@ -37,9 +37,9 @@ pub trait SealsNotes {
 pub struct AsSigned;
 
 impl SealsNotes for AsSigned {
-    ghost use Rattle.std.specs.Prelude.{[]};
+    ghost use Rattle.std.specs.Prelude.{[], None};
 
-    ghost quorum = { λ _. record { witnesses = []; need = 0 } };
+    ghost quorum = { λ _. record { witnesses = []; need = 0; policy = None } };
 
     fn seal<P: ProposalStore>(
         &mut self,

@@ -42,7 +42,7 @@ AppendsIn held reached options i o (Some folder) result =
 
 -- nobody has to cosign what is shown
 abbrev pub nobody : Quorum
-nobody = record { witnesses = []; need = 0 }
+nobody = record { witnesses = []; need = 0; policy = None }
 
 -- nothing was written, or a log began if that was asked for, and otherwise went on
 abbrev pub ServesAsAsked : ServeOptions → Found → Visit → Type 0

@@ -36,15 +36,26 @@ impl<X: Drop> From<AllocFailed<X>> for KeyTextFault {
     }
 }
 
-// Reports whether an option of a command takes the text of a public key.
-fn takes_key(command: &str, option: &str) -> bool {
-    match option {
+// What stands behind an option.
+#[derive(Clone, Copy)]
+enum Taken {
+    // The text of a public key, or `@FILE` for that of a file.
+    Key,
+    // The file of a policy.
+    Policy,
+}
+
+// Returns what stands behind an option of a command, if its text may be in a file.
+fn taken_by(command: &str, option: &str) -> Option<Taken> {
+    let takes_key = match option {
         "--key" => matches!(command, "check" | "open" | "fetch" | "feed"),
         "--fork" => command == "check",
         "--log-key" => command == "witness",
         "--witness" => matches!(command, "fetch" | "feed" | "serve"),
+        "--witnesses" if command == "serve" => return Some(Taken::Policy),
         _ => false,
-    }
+    };
+    if takes_key { Some(Taken::Key) } else { None }
 }
 
 // Cuts `@FILE`, or `@FILE=URL`, into the path and what stands behind it.
@@ -77,33 +88,6 @@ fn text_at<H: Files>(
     Ok(format!(in alloc; "{text}{rest}")?)
 }
 
-// Returns a word of a command. If the word before takes a key, or if the word is an option that does, with its value
-// behind an equals sign, the text of the file replaces `@FILE`.
-fn word_of<H: Files>(
-    rt: &H,
-    alloc: Global,
-    command: &str,
-    word: &str,
-    is_key: bool,
-) -> Result<String, KeyTextFault> {
-    if is_key {
-        return match path_in(word) {
-            Some((path, rest)) => text_at(rt, alloc, path, rest),
-            None => Ok(String::from_str(alloc, word)?),
-        };
-    }
-    let Some((option, value)) = word.split_once('=') else {
-        return Ok(String::from_str(alloc, word)?);
-    };
-    match path_in(value) {
-        Some((path, rest)) if takes_key(command, option) => {
-            let text = text_at(rt, alloc, path, rest)?;
-            Ok(format!(in alloc; "{option}={text}")?)
-        }
-        _ => Ok(String::from_str(alloc, word)?),
-    }
-}
-
 // Returns the text of a policy's file. Fails with `Quorum` if its witnesses that have a URL can't satisfy the quorum.
 fn policy_at<H: Files>(rt: &H, alloc: Global, path: &str) -> Result<String, KeyTextFault> {
     let text = match policy_text(rt, alloc, path) {
@@ -118,32 +102,44 @@ fn policy_at<H: Files>(rt: &H, alloc: Global, path: &str) -> Result<String, KeyT
     Ok(text)
 }
 
-// Returns the words of `serve` with the text of a policy in place of its file.
-fn with_policy<H: Files>(
+// Returns the value of an option, with the text of a file in place of the file.
+fn value_of<H: Files>(
     rt: &H,
     alloc: Global,
-    words: Vec<String>,
-) -> Result<Vec<String>, KeyTextFault> {
-    let mut given = Vec::new(alloc);
-    let mut is_path = false;
-    for word in words {
-        let word = word.as_str();
-        if is_path {
-            given.push(policy_at(rt, alloc, word)?)?;
-        } else if let Some(path) = word.strip_prefix("--witnesses=") {
-            let text = policy_at(rt, alloc, path)?;
-            given.push(format!(in alloc; "--witnesses={text}")?)?;
-        } else {
-            given.push(String::from_str(alloc, word)?)?;
-        }
-        is_path = !is_path && word == "--witnesses";
+    taken: Taken,
+    value: &str,
+) -> Result<String, KeyTextFault> {
+    match (taken, path_in(value)) {
+        (Taken::Policy, _) => policy_at(rt, alloc, value),
+        (Taken::Key, Some((path, rest))) => text_at(rt, alloc, path, rest),
+        (Taken::Key, None) => Ok(String::from_str(alloc, value)?),
     }
-    Ok(given)
+}
+
+// Returns a word of a command, with the text of a file in place of the file: `taken` says what the word before takes,
+// and an option may have its value behind an equals sign.
+fn word_of<H: Files>(
+    rt: &H,
+    alloc: Global,
+    command: &str,
+    word: &str,
+    taken: Option<Taken>,
+) -> Result<String, KeyTextFault> {
+    if let Some(taken) = taken {
+        return value_of(rt, alloc, taken, word);
+    }
+    if let Some((option, value)) = word.split_once('=') {
+        if let Some(taken) = taken_by(command, option) {
+            let value = value_of(rt, alloc, taken, value)?;
+            return Ok(format!(in alloc; "{option}={value}")?);
+        }
+    }
+    Ok(String::from_str(alloc, word)?)
 }
 
 /// Returns the words of a command, the program's name first, with the text of a file in place of each `@FILE` that
 /// stands for a public key, and of `serve` with the text of a policy in place of its file.
-pub(crate) fn with_key_texts<H: Files>(
+pub(crate) fn with_texts<H: Files>(
     rt: &H,
     alloc: Global,
     words: &[String],
@@ -153,13 +149,14 @@ pub(crate) fn with_key_texts<H: Files>(
         None => "",
     };
     let mut given = Vec::new(alloc);
-    let mut is_key = false;
+    let mut taken = None;
     for word in words {
-        given.push(word_of(rt, alloc, command, word.as_str(), is_key)?)?;
-        is_key = takes_key(command, word.as_str());
-    }
-    if command == "serve" {
-        return with_policy(rt, alloc, given);
+        let word = word.as_str();
+        given.push(word_of(rt, alloc, command, word, taken)?)?;
+        taken = match taken {
+            Some(_) => None,
+            None => taken_by(command, word),
+        };
     }
     Ok(given)
 }

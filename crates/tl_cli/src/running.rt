@@ -18,7 +18,7 @@ use crate::fault::{
 use crate::in_bucket::{append_to, serve_from};
 use crate::job::{ConsistencyOptions, InclusionOptions, Job};
 use crate::key_files::keygen_to;
-use crate::key_texts::{KeyTextFault, end_unread, with_key_texts};
+use crate::key_texts::{KeyTextFault, end_unread, with_texts};
 use crate::lasting::{append, serve, witness};
 use crate::own_folder::OwnFolder;
 use crate::streams::Streams;
@@ -274,7 +274,7 @@ pub fn run_words<
         (passage W.contents writer.old writer.new) (passage E.contents errors.old errors.new)
         result }
 {
-    let words = match with_key_texts(rt, alloc, words) {
+    let words = match with_texts(rt, alloc, words) {
         Ok(words) => words,
         Err(KeyTextFault::OutOfMemory) => return end_early(errors),
         Err(fault) => return end_unread(alloc, &fault, errors),

@@ -1,16 +1,18 @@
 //! Finding the witnesses that cosigned a checkpoint, each with any of its keys.
 
 ghost use Rattle.std.specs.Prelude.{◌≡◌, ◌↔◌, All, Any, Contains, IfOk, IsTrue, MatchBool, ℕ, map};
-ghost use Rattle.tl_checkpoint.specs.Cosignature.{ChecksCosignature, IsCosignature};
+ghost use Rattle.tl_checkpoint.specs.Cosignature.{IsCosignature};
 ghost use Rattle.tl_client.specs.Trusted.{AreCosigners};
+ghost use Rattle.tl_key.specs.NoteKey.{verifier_key};
 
-use std::alloc::{AllocError, Allocator};
-use tl_checkpoint::check_cosignature;
+use std::alloc::{AllocError, Allocator, Global};
+use tl_key::CosignerVerifier;
 use tl_note::{SigView, Verifier};
+use tl_policy::cosigned_at;
 
 // Returns the name of a witness.
-fn name_of(witness: &Box<dyn Verifier>) -> &str
-    ensures { result.now ≡ (key witness.now).name }
+fn name_of(witness: &CosignerVerifier<Global>) -> &str
+    ensures { result.now ≡ witness.now.name }
 {
     witness.name()
 }
@@ -22,33 +24,21 @@ fn is_among(names: &[&str], name: &str) -> bool
     names.iter().any(|known| *known == name)
 }
 
-// Returns the time of the line if it is a cosignature by the witness.
-fn time_by<A: Allocator + Copy>(
-    alloc: A,
-    text: &str,
-    line: &SigView<'_>,
-    witness: &Box<dyn Verifier>,
-) -> Result<Option<u64>, AllocError>
-    ensures { IfOk result (ChecksCosignature text.now (key witness.now) line.now) }
-{
-    check_cosignature(alloc, text, line, &**witness)
-}
-
 // Reports whether one of the lines is a cosignature by this key.
 fn has_line<A: Allocator + Copy>(
     alloc: A,
     text: &str,
     lines: &[SigView<'_>],
-    witness: &Box<dyn Verifier>,
+    witness: &CosignerVerifier<Global>,
 ) -> Result<bool, AllocError>
     ensures { IfOk result (λ found. MatchBool found
-        (Any (λ line. (time : ℕ) × IsCosignature text.now (key witness.now) line time) lines.now)
-        (All (λ line. (time : ℕ) → ¬ (IsCosignature text.now (key witness.now) line time)) lines.now)) }
+        (Any (λ line. (time : ℕ) × IsCosignature text.now (verifier_key witness.now) line time) lines.now)
+        (All (λ line. (time : ℕ) → ¬ (IsCosignature text.now (verifier_key witness.now) line time)) lines.now)) }
 {
     let [first, rest @ ..] = lines else {
         return Ok(false);
     };
-    if let Some(_) = time_by(alloc, text, first, witness)? {
+    if let Some(_) = cosigned_at(alloc, text, first, witness)? {
         return Ok(true);
     }
     has_line(alloc, text, rest, witness)
@@ -60,9 +50,9 @@ pub(crate) fn cosigner_names<'w, A: Allocator + Copy>(
     alloc: A,
     text: &str,
     lines: &[SigView<'_>],
-    witnesses: &'w [Box<dyn Verifier>],
+    witnesses: &'w [CosignerVerifier<Global>],
 ) -> Result<Vec<&'w str, A>, AllocError>
-    ensures { IfOk result (λ names. AreCosigners text.now (map (λ w. key w) witnesses.now)
+    ensures { IfOk result (λ names. AreCosigners text.now (map verifier_key witnesses.now)
         lines.now (map (λ n. n.now) names.items)) }
 {
     let [first, rest @ ..] = witnesses else {

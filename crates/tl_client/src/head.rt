@@ -4,11 +4,13 @@
 ghost use Rattle.std.specs.Prelude.{◌≡◌, map};
 ghost use Rattle.tl_client.specs.Trusted.{OpensHead, after_checkpoint, after_note};
 ghost use Rattle.tl_client.specs.declared.head.HeadFault.TheVariants.{OutOfMemory};
+ghost use Rattle.tl_key.specs.NoteKey.{verifier_key};
 
 use crate::cosigners::cosigner_names;
-use std::alloc::{AllocError, AllocFailed, Allocator};
+use std::alloc::{AllocError, AllocFailed, Allocator, Global};
 use thiserror::Error;
 use tl_checkpoint::{Checkpoint, CheckpointFault, parse};
+use tl_key::CosignerVerifier;
 use tl_note::{NoteFault, Verifier, open_note};
 
 /// Why a checkpoint isn't trusted, in the order of the checks.
@@ -74,12 +76,12 @@ pub fn open_cosigned<A: Allocator + Copy>(
     alloc: A,
     note: &str,
     verifiers: &[Box<dyn Verifier>],
-    witnesses: &[Box<dyn Verifier>],
+    witnesses: &[CosignerVerifier<Global>],
     need: u64,
 ) -> Result<Checkpoint<A>, HeadFault>
     ensures { OpensHead note.now (record {
       keys = map (λ v. key v) verifiers.now;
-      witnesses = map (λ w. key w) witnesses.now;
+      witnesses = map verifier_key witnesses.now;
       need = need;
     }) result }
 {

@@ -1,7 +1,8 @@
 //! Asking one witness to cosign a checkpoint.
 
 ghost use Rattle.std.specs.Prelude.{◌≡◌, ◌⊎◌, ℕ, All, Any, IfErr, IfOk, MatchBool, OnOk, map, string_bytes};
-ghost use Rattle.tl_checkpoint.specs.Cosignature.{ChecksCosignature, IsCosignature};
+ghost use Rattle.tl_checkpoint.specs.Cosignature.{IsCosignature};
+ghost use Rattle.tl_key.specs.NoteKey.{verifier_key};
 ghost use Rattle.tl_note.specs.Note.{signature_line};
 ghost use Rattle.tl_feed.specs.Inner.Answered.{AreOthers};
 ghost use Rattle.tl_feed.specs.Lines.{CosignsNote, CosignsText};
@@ -14,9 +15,10 @@ use crate::proposed::{AsksWitness, Proposed};
 use crate::question::{Question, WitnessAnswer};
 use crate::unasked::Unasked;
 use std::alloc::{AllocError, Global};
-use tl_checkpoint::check_cosignature;
 use tl_client::ResourceSource;
-use tl_note::{NoteFault, SigView, Verifier, parse_note, parse_signatures};
+use tl_key::CosignerVerifier;
+use tl_note::{NoteFault, SigView, parse_note, parse_signatures};
+use tl_policy::cosigned_at;
 
 // How often a witness is asked, at most, if it answers with another size each time.
 const MOST_TRIES: u32 = 4;
@@ -53,33 +55,21 @@ fn lines_of<S: ResourceSource, Q: AsksWitness>(
     Err(Unasked::Restless)
 }
 
-// Returns the time of a line if the line is the witness's cosignature of this text.
-fn time_by(
-    alloc: Global,
-    text: &str,
-    line: &SigView<'_>,
-    witness: &Box<dyn Verifier>,
-) -> Result<Option<u64>, AllocError>
-    ensures { IfOk result (ChecksCosignature text.now (key witness.now) line.now) }
-{
-    check_cosignature(alloc, text, line, &**witness)
-}
-
 // Reports whether a line is a cosignature of this text by one of these keys.
 fn is_own(
     alloc: Global,
     text: &str,
     line: &SigView<'_>,
-    keys: &[Box<dyn Verifier>],
+    keys: &[CosignerVerifier<Global>],
 ) -> Result<bool, AllocError>
     ensures { IfOk result (λ own. MatchBool own
-        (Any (λ v. (time : ℕ) × IsCosignature text.now (key v) line.now time) keys.now)
-        (All (λ v. (time : ℕ) → ¬ (IsCosignature text.now (key v) line.now time)) keys.now)) }
+        (Any (λ v. (time : ℕ) × IsCosignature text.now (verifier_key v) line.now time) keys.now)
+        (All (λ v. (time : ℕ) → ¬ (IsCosignature text.now (verifier_key v) line.now time)) keys.now)) }
 {
     let [first, rest @ ..] = keys else {
         return Ok(false);
     };
-    if let Some(_) = time_by(alloc, text, line, first)? {
+    if let Some(_) = cosigned_at(alloc, text, line, first)? {
         return Ok(true);
     }
     is_own(alloc, text, line, rest)
@@ -99,12 +89,12 @@ fn own_line(
     alloc: Global,
     text: &str,
     lines: &str,
-    keys: &[Box<dyn Verifier>],
+    keys: &[CosignerVerifier<Global>],
 ) -> Result<String, Unasked>
     ensures line { IfOk result
-        (λ line. CosignsText (map (λ v. key v) keys.now) text.now (string_bytes line)) }
+        (λ line. CosignsText (map verifier_key keys.now) text.now (string_bytes line)) }
     ensures none { IfErr result (λ why. (why ≡ Unasked.Ask AskFault.OutOfMemory)
-        ⊎ ((why ≡ Unasked.Other) × AreOthers text.now (map (λ v. key v) keys.now) lines.now)) }
+        ⊎ ((why ≡ Unasked.Other) × AreOthers text.now (map verifier_key keys.now) lines.now)) }
 {
     let views = match parse_signatures(alloc, lines) {
         Ok(views) => views,
@@ -129,12 +119,12 @@ pub fn line_of<S: ResourceSource, Q: AsksWitness>(
     proposed: &Proposed<'_>,
     known: &mut u64,
     asker: &mut Q,
-    keys: &[Box<dyn Verifier>],
+    keys: &[CosignerVerifier<Global>],
 ) -> Result<String, Unasked>
     requires { IsSignedBy proposed.now.origin.now
         (map (λ v. key v) proposed.now.log.now) proposed.now.note.now proposed.now.head.now }
     ensures line { IfOk result
-        (λ line. CosignsNote (map (λ v. key v) keys.now) proposed.now.note.now (string_bytes line)) }
+        (λ line. CosignsNote (map verifier_key keys.now) proposed.now.note.now (string_bytes line)) }
     ensures known { OnOk result (known.new ≡ proposed.now.head.now.size) }
     ensures fair { IfErr result
         (IsFairlyTold (S.may_answer source.now) (S.may_lack source.now) proposed.now.head.now) }

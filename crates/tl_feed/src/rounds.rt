@@ -2,6 +2,7 @@
 
 ghost use Rattle.std.specs.Prelude.{IfOk, IfSome, map, string_bytes};
 ghost use Rattle.tl_feed.specs.Lines.{CosignsNote};
+ghost use Rattle.tl_key.specs.NoteKey.{verifier_key};
 
 use crate::ballot::Ballot;
 use crate::failing::{Failure, is_told, next_failure};
@@ -14,7 +15,7 @@ use std::sync::Wait;
 use std::time::Clock;
 use tl_checkpoint::{OpenCheckpointFault, open_checkpoint};
 use tl_client::{Head, ResourceSource};
-use tl_note::Verifier;
+use tl_key::CosignerVerifier;
 
 // Returns the line by which a witness cosigns a note, or `None` if the note isn't the log's, so that no witness is
 // asked.
@@ -25,10 +26,10 @@ fn line_by<S: ResourceSource, Q: AsksWitness>(
     note: &str,
     known: &mut u64,
     asker: &mut Q,
-    keys: &[Box<dyn Verifier>],
+    keys: &[CosignerVerifier<Global>],
 ) -> Result<Option<String>, Unasked>
     ensures { IfOk result (λ found. IfSome found
-        (λ line. CosignsNote (map (λ v. key v) keys.now) note.now (string_bytes line))) }
+        (λ line. CosignsNote (map verifier_key keys.now) note.now (string_bytes line))) }
 {
     let checkpoint = match open_checkpoint(alloc, note, log.keys) {
         Ok(checkpoint) => checkpoint,
@@ -66,7 +67,7 @@ pub fn ask_in_rounds<R: Wait + Clock, S: ResourceSource, Q: AsksWitness>(
     source: &S,
     log: &LogIdentity<'_>,
     asker: &mut Q,
-    keys: &[Box<dyn Verifier>],
+    keys: &[CosignerVerifier<Global>],
 ) {
     let (mut known, mut after) = (0, 0);
     let mut last: Option<Failure> = None;

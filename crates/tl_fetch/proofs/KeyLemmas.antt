@@ -1,8 +1,8 @@
 -- Public keys of witnesses, each its own, and those of the log.
-use Rattle.std.proofs.Common.{◌≡◌, ◌<◌, ◌+◌, ◌⊎◌, ◌++◌, ◌∷◌, [], List, ℕ, zero, suc, refl, sym, subst, inl, inr, arith, drop, length}
+use Rattle.std.proofs.Common.{◌≡◌, ◌<◌, ◌≤◌, ◌+◌, ◌⊎◌, ◌++◌, ◌∷◌, [], List, ℕ, zero, suc, refl, sym, subst, inl, inr, arith, drop, length}
 use Rattle.std.specs.Prelude.{Contains}
 use Rattle.std.specs.List.{Any}
-use Rattle.std.proofs.lemmas.List.{drop_more}
+use Rattle.std.proofs.lemmas.List.{append-nil, append_assoc, drop_all, drop_more}
 use Rattle.std.proofs.lemmas.List.Elements.{Contains-append_cases}
 use Rattle.tl_hash.specs.Bytes.{Bytes}
 use Rattle.tl_key.specs.KeyText.{IsVerifierText}
@@ -10,9 +10,10 @@ use Rattle.tl_key.specs.NoteKey.{PublicKey, cosignature_kind, note_kind}
 use Rattle.tl_fetch.specs.declared.options.FetchOptions.{FetchOptions}
 use Rattle.tl_fetch.specs.Command.{HaveLogKeys, HaveOwnKeys, IsEarlierKey, IsTextOf, log_texts, public_keys, witness_text, witness_texts}
 
--- the texts before a place have keys of their own, of which these are all, with the log's
-pub record HaveOwnSoFar (options : FetchOptions) (log known : List Bytes) (place : ℕ) : Type 0 where
-  pub own : HaveOwnKeys known (drop place (witness_texts options)) → HaveOwnKeys log (witness_texts options)
+-- the texts before a place are of these keys, each with a public key of its own; these are all public keys, with the
+-- log's
+pub record HaveOwnSoFar (options : FetchOptions) (log known : List Bytes) (keys : List PublicKey) (place : ℕ) : Type 0 where
+  pub own : (rest : List PublicKey) → HaveOwnKeys known (drop place (witness_texts options)) rest → HaveOwnKeys log (witness_texts options) (keys ++ rest)
   pub earlier : (x : Bytes) → Contains known x → IsEarlierKey options place x
 
 -- what holds of one of these holds of one of more
@@ -30,9 +31,9 @@ of_text name (text ∷ texts) (k ∷ keys) x have (suc at, within, is) =
     behind (IsTextOf note_kind x) text texts (of_text name texts keys x have.3 (at, omega (arith, within), is))
 
 pub own_first : (options : FetchOptions) (log : List Bytes) (name : Bytes) (keys : List PublicKey)
-    → HaveLogKeys name (log_texts options) keys → log ≡ public_keys keys → HaveOwnSoFar options log log 0
+    → HaveLogKeys name (log_texts options) keys → log ≡ public_keys keys → HaveOwnSoFar options log log [] 0
 own_first options log name keys have same = record {
-  own = λ rest. rest;
+  own = λ rest have. have;
   earlier = λ x among. inl (of_text name (log_texts options) keys x have (subst (λ (ks : List Bytes). Contains ks x) same among));
 }
 
@@ -45,11 +46,19 @@ only : (key x : Bytes) → Contains (key ∷ []) x → key ≡ x
 only key x (zero, within, is) = is
 only key x (suc k, within, is) = absurd (omega (arith, within))
 
-pub own_next : (options : FetchOptions) (log known : List Bytes) (place : ℕ) (k : PublicKey) → place < length (witness_texts options)
+-- all texts are of these keys
+pub own_all : (options : FetchOptions) (log known : List Bytes) (keys : List PublicKey) (place : ℕ) → length (witness_texts options) ≤ place
+    → HaveOwnSoFar options log known keys place → HaveOwnKeys log (witness_texts options) keys
+own_all options log known keys place past so =
+    subst (HaveOwnKeys log (witness_texts options)) (append-nil keys)
+    (so.own [] (subst (λ (ts : List Bytes). HaveOwnKeys known ts []) (sym (drop_all place (witness_texts options) past)) tt))
+
+pub own_next : (options : FetchOptions) (log known : List Bytes) (keys : List PublicKey) (place : ℕ) (k : PublicKey) → place < length (witness_texts options)
     → IsVerifierText cosignature_kind (witness_text options place) k → (Contains known k.key → ⊥)
-    → HaveOwnSoFar options log known place → HaveOwnSoFar options log (known ++ k.key ∷ []) (place + 1)
-own_next options log known place k within spelled new so = record {
-  own = λ rest. so.own (subst (HaveOwnKeys known) (sym (drop_more (witness_texts options) place [] within)) (k, spelled, new, rest));
+    → HaveOwnSoFar options log known keys place → HaveOwnSoFar options log (known ++ k.key ∷ []) (keys ++ k ∷ []) (place + 1)
+own_next options log known keys place k within spelled new so = record {
+  own = λ rest have. subst (HaveOwnKeys log (witness_texts options)) (sym (append_assoc keys (k ∷ []) rest))
+      (so.own (k ∷ rest) (subst (λ (ts : List Bytes). HaveOwnKeys known ts (k ∷ rest)) (sym (drop_more (witness_texts options) place [] within)) (spelled, new, have)));
   earlier = λ x among. among_next x (Contains-append_cases known (k.key ∷ []) x among);
 } where
   among_next : (x : Bytes) → Contains known x ⊎ Contains (k.key ∷ []) x → IsEarlierKey options (place + 1) x

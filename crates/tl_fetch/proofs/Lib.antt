@@ -12,3 +12,4 @@ pub mod KeyLemmas
 pub mod FreshLemmas
 pub mod AddressLemmas
 pub mod JudgingLemmas
+pub mod Policies

@@ -58,20 +58,21 @@ witness_texts options = map string_bytes (vec_items options.witnesses)
 abbrev pub witness_text : FetchOptions → ℕ → Bytes
 witness_text options place = slice_index_or (witness_texts options) place []
 
--- each text is a witness's key, whose public key is neither one of these nor that of a text before it
-abbrev pub HaveOwnKeys : List Bytes → List Bytes → Type 0
-HaveOwnKeys others [] = Unit {0}
-HaveOwnKeys others (text ∷ texts) =
-    (k : PublicKey) × IsVerifierText cosignature_kind text k × ¬ (Contains others k.key)
-    × HaveOwnKeys (others ++ k.key ∷ []) texts
+-- each text is of one of these keys, in order, whose public key is neither one of those nor that of a text before it
+abbrev pub HaveOwnKeys : List Bytes → List Bytes → List PublicKey → Type 0
+HaveOwnKeys others [] [] = Unit {0}
+HaveOwnKeys others [] (k ∷ keys) = ⊥
+HaveOwnKeys others (text ∷ texts) [] = ⊥
+HaveOwnKeys others (text ∷ texts) (k ∷ keys) =
+    IsVerifierText cosignature_kind text k × ¬ (Contains others k.key) × HaveOwnKeys (others ++ k.key ∷ []) texts keys
 
 -- the time from which on a cosignature is fresh: this many seconds before what the clock read, if that is asked for
 abbrev pub IsSinceOf : Option ℕ → Option ℕ → Type 0
 IsSinceOf None since = since ≡ None
 IsSinceOf (Some seconds) since = (now : ℕ) × (since ≡ Some (now - seconds))
 
--- the policy of these options: a checkpoint is trusted if one of the log's keys signed it, and this many witnesses
--- cosigned it, one of them lately enough; no two of the keys are one public key, and no witness has a key of the log
+-- the policy of these options: a checkpoint is trusted if one of the log's keys signed it, and this many of the
+-- witnesses cosigned it, one of them lately enough; no two of the keys are one public key
 pub record IsPolicyOf (options : FetchOptions) (policy : Policy) : Type 0 where
   pub keys : List PublicKey
   pub spelled : HaveLogKeys policy.origin (log_texts options) keys
@@ -79,7 +80,9 @@ pub record IsPolicyOf (options : FetchOptions) (policy : Policy) : Type 0 where
   pub need : policy.trust.need ≡ options.need
   pub since : IsSinceOf options.fresh policy.since
   pub no_text : policy.under ≡ None
-  pub own : HaveOwnKeys (public_keys keys) (witness_texts options)
+  pub witnesses : List PublicKey
+  pub own : HaveOwnKeys (public_keys keys) (witness_texts options) witnesses
+  pub asked : policy.trust.witnesses ≡ map verifier_key witnesses
 
 -- ---- the grounds of a run
 

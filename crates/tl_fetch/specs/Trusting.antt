@@ -6,6 +6,7 @@ use Rattle.std.specs.Global.{Global}
 use Rattle.std.specs.declared.dyn_box.DynBox.{DynBox}
 use Rattle.sha2.specs.Sha256.{sha256}
 use Rattle.tl_hash.specs.Bytes.{Bytes}
+use Rattle.tl_key.specs.NoteKey.{verifier_key}
 use Rattle.tl_note.specs.Key.{Key}
 use Rattle.tl_note.specs.Note.{Note, Signature}
 use Rattle.tl_proof.specs.Acceptance.{AcceptsConsistency}
@@ -46,11 +47,11 @@ alone policy = record {
 abbrev pub under_of : memory.Under → Under
 under_of u = record { terms = terms_of u.policy.now; since = u.since }
 
--- the keys are those of these boxes
+-- the log's keys are those of these boxes
 abbrev pub policy_in : {G : Type 0} {F : G → Type 0} → (DynBox G Global F → Key) → keys.Policy G F → Policy
 policy_in key p = record {
   origin = p.origin.now;
-  trust = record { keys = map key p.log.now; witnesses = map key p.witnesses.now; need = p.need };
+  trust = record { keys = map key p.log.now; witnesses = map verifier_key p.witnesses.now; need = p.need };
   since = p.since;
   under = option_map under_of p.under;
 }

@@ -1,17 +1,16 @@
 //! The command `fetch` under the text of a policy.
 
-ghost use Rattle.std.specs.Prelude.{◌≡◌, IfErr, IfOk, map, string_bytes};
+ghost use Rattle.std.specs.Prelude.{◌≡◌, IfErr, IfOk, map};
 ghost use Rattle.tl_device.specs.Device.{passage};
 ghost use Rattle.tl_policy.specs.Terms.{log_term, terms_of, url_of};
-ghost use Rattle.tl_fetch.specs.ByPolicy.{AreKeysBy, FetchesBy, IsPolicyBy, NamesNone, is_twin, is_url, key_at, key_for, note_key, twin_of};
-ghost use Rattle.tl_fetch.specs.Trusting.{policy_in};
+ghost use Rattle.tl_fetch.specs.ByPolicy.{AreKeysBy, FetchesBy, NamesNone, is_twin, is_url, key_at, key_for, note_key, twin_of};
 
-use crate::command::fetch_as_asked;
+use crate::by_keys::fetch_by;
+use crate::conditions::Conditions;
 use crate::fault::FetchFault;
 use crate::freshness::since_of;
 use crate::log_keys::LogKeys;
 use crate::options::FetchOptions;
-use crate::policy::Policy;
 use crate::under::Under;
 use std::alloc::{AllocError, Global};
 use std::fs::{File, Files};
@@ -23,7 +22,6 @@ use tl_device::Counted;
 use tl_key::NoteVerifier;
 use tl_note::Verifier;
 use tl_policy::{Policy as Text, PolicyLog, TrustFault};
-use tl_source::HostClient;
 
 // Whether a log is served here.
 fn is_url(from: &str, url: Option<&str>) -> bool
@@ -121,73 +119,6 @@ pub(crate) fn keys_by(
     Ok(LogKeys { key, other })
 }
 
-// Fetches as `fetch` does, under the policy that the text and the options describe.
-fn fetch_as_said<'s, H: Files<File = File> + HostClient, W: Write, E: Write>(
-    rt: &'s H,
-    alloc: Global,
-    text: &Text<'_, Global>,
-    policy: &Policy<'_>,
-    options: &'s FetchOptions,
-    writer: &mut Counted<W>,
-    errors: &'s mut Counted<E>,
-    is_terminal: bool,
-) -> Result<(), FetchFault>
-    requires { IsPolicyBy (terms_of text.now) options.now (policy_in (λ v. key v) policy.now) }
-    ensures { FetchesBy (terms_of text.now) options.now
-        (passage W.contents writer.old writer.new) result }
-{
-    match fetch_as_asked(rt, alloc, policy, options, writer, errors, is_terminal) {
-        Ok(()) => Ok(()),
-        Err(fault) => Err(fault),
-    }
-}
-
-// Fetches by these keys of the log, one or two.
-fn fetch_with_keys<'s, H: Files<File = File> + HostClient, W: Write, E: Write>(
-    rt: &'s H,
-    alloc: Global,
-    text: &Text<'_, Global>,
-    keys: LogKeys,
-    options: &'s FetchOptions,
-    writer: &mut Counted<W>,
-    errors: &'s mut Counted<E>,
-    is_terminal: bool,
-) -> Result<(), FetchFault>
-    requires { AreKeysBy (terms_of text.now) (string_bytes options.now.from) keys.key keys.other }
-    ensures { FetchesBy (terms_of text.now) options.now
-        (passage W.contents writer.old writer.new) result }
-{
-    let origin = String::from_str(alloc, keys.key.name())?;
-    let origin = origin.as_str();
-    let since = since_of(rt, options.fresh);
-    let under = Some(Under {
-        policy: text,
-        since,
-    });
-    let first: Box<dyn Verifier> = Box::new(alloc, keys.key)?;
-    let Some(other) = keys.other else {
-        let own = Policy {
-            origin,
-            log: &[first],
-            witnesses: &[],
-            need: 0,
-            since: None,
-            under,
-        };
-        return fetch_as_said(rt, alloc, text, &own, options, writer, errors, is_terminal);
-    };
-    let second: Box<dyn Verifier> = Box::new(alloc, other)?;
-    let own = Policy {
-        origin,
-        log: &[first, second],
-        witnesses: &[],
-        need: 0,
-        since: None,
-        under,
-    };
-    fetch_as_said(rt, alloc, text, &own, options, writer, errors, is_terminal)
-}
-
 /// Fetches as `run_fetch` does, under the text of a policy (C2SP tlog-policy) in place of keys: `key`, `other_key`,
 /// `witnesses` and `need` of the options aren't used. The log is the first of the policy whose URL is `from`, or else
 /// the first of all, by its key and the next one of that name. A checkpoint is trusted if it opens under these keys
@@ -215,5 +146,16 @@ pub fn fetch_by_policy<
         (passage W.contents writer.old writer.new) result }
 {
     let keys = keys_by(alloc, text, options.from.as_str())?;
-    fetch_with_keys(rt, alloc, text, keys, options, writer, errors, is_terminal)
+    let origin = String::from_str(alloc, keys.key.name())?;
+    let asked = Conditions {
+        origin: origin.as_str(),
+        witnesses: &[],
+        need: 0,
+        since: None,
+        under: Some(Under {
+            policy: text,
+            since: since_of(rt, options.fresh),
+        }),
+    };
+    fetch_by(rt, alloc, keys, asked, options, writer, errors, is_terminal)
 }

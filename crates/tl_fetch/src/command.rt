@@ -1,18 +1,19 @@
 //! The command `fetch`.
 
-ghost use Rattle.std.specs.Prelude.{◌≡◌, ◌++◌, string_bytes, IfErr, IfOk, codes, map};
+ghost use Rattle.std.specs.Prelude.{◌≡◌, ◌++◌, string_bytes, IfErr, IfOk, codes};
 ghost use Rattle.tl_device.specs.Device.{passage};
-ghost use Rattle.tl_fetch.specs.Command.{HasScheme, IsOriginOf, IsSinceOf, IsStateFault, RunsFetch, RunsUnder, cached_answers, cached_lacks, keys_of};
-ghost use Rattle.tl_fetch.specs.Inner.LogKeys.{AreTold, ToldBy};
+ghost use Rattle.tl_fetch.specs.Command.{HasScheme, IsOriginOf, IsStateFault, RunsFetch, RunsUnder, cached_answers, cached_lacks};
 ghost use Rattle.tl_fetch.specs.Inner.Naming.{Renames, RunsOver, RunsWith, told_as};
 ghost use Rattle.tl_fetch.specs.Trusting.{policy_in};
 ghost use Rattle.tl_source.specs.Sources.{origin_of};
 ghost use Rattle.tl_source.specs.Url.{IsNoUrl};
 
+use crate::by_keys::fetch_by;
 use crate::caching::Caching;
+use crate::conditions::Conditions;
 use crate::fault::{Address, FetchFault};
 use crate::freshness::since_of;
-use crate::log_keys::{LogKeys, log_keys};
+use crate::log_keys::{NamedKeys, named_keys};
 use crate::observer::Observer;
 use crate::options::{FetchOptions, FetchRequest};
 use crate::policy::Policy;
@@ -20,7 +21,6 @@ use crate::progress::Progress;
 use crate::run::fetch_under;
 use crate::state::NoState;
 use crate::state_file::{FileState, file_refusal};
-use crate::witnesses::witness_key;
 use std::alloc::{AllocError, Global};
 use std::fs::{File, Files};
 use std::io::Write;
@@ -293,74 +293,6 @@ pub(crate) fn fetch_as_asked<'s, H: Files<File = File> + HostClient, W: Write, E
     with_lack(outcome, source.lack())
 }
 
-// Fetches as `fetch_as_asked` does, under the policy that the options describe.
-fn fetch_as_told<'s, H: Files<File = File> + HostClient, W: Write, E: Write>(
-    rt: &'s H,
-    alloc: Global,
-    policy: &Policy<'_>,
-    options: &'s FetchOptions,
-    writer: &mut Counted<W>,
-    errors: &'s mut Counted<E>,
-    is_terminal: bool,
-) -> Result<(), FetchFault>
-    requires told { ToldBy options.now policy.now.origin.now (map (λ v. key v) policy.now.log.now) }
-    requires need { policy.now.need ≡ options.now.need }
-    requires since { IsSinceOf options.now.fresh policy.now.since }
-    requires no_text { policy.now.under ≡ None }
-    ensures { RunsFetch options.now (passage W.contents writer.old writer.new) result }
-{
-    match fetch_as_asked(rt, alloc, policy, options, writer, errors, is_terminal) {
-        Ok(()) => Ok(()),
-        Err(fault) => Err(fault),
-    }
-}
-
-// Fetches by the keys of a log, one or two.
-fn fetch_by<'s, H: Files<File = File> + HostClient, W: Write, E: Write>(
-    rt: &'s H,
-    alloc: Global,
-    keys: LogKeys,
-    options: &'s FetchOptions,
-    writer: &mut Counted<W>,
-    errors: &'s mut Counted<E>,
-    is_terminal: bool,
-) -> Result<(), FetchFault>
-    requires { AreTold options.now keys.key.name (keys_of keys.key keys.other) }
-    ensures { RunsFetch options.now (passage W.contents writer.old writer.new) result }
-{
-    let mut witnesses: Vec<Box<dyn Verifier>> = Vec::new(alloc);
-    for place in 0..options.witnesses.len() {
-        let key = witness_key(alloc, options, place)?;
-        witnesses.push(Box::new(alloc, key)?)?;
-    }
-    let origin = String::from_str(alloc, keys.key.name())?;
-    let witnesses = witnesses.as_slice();
-    let (origin, need) = (origin.as_str(), options.need);
-    let since = since_of(rt, options.fresh);
-    let first: Box<dyn Verifier> = Box::new(alloc, keys.key)?;
-    let Some(other) = keys.other else {
-        let policy = Policy {
-            origin,
-            log: &[first],
-            witnesses,
-            need,
-            since,
-            under: None,
-        };
-        return fetch_as_told(rt, alloc, &policy, options, writer, errors, is_terminal);
-    };
-    let second: Box<dyn Verifier> = Box::new(alloc, other)?;
-    let policy = Policy {
-        origin,
-        log: &[first, second],
-        witnesses,
-        need,
-        since,
-        under: None,
-    };
-    fetch_as_told(rt, alloc, &policy, options, writer, errors, is_terminal)
-}
-
 /// Runs the command `fetch`. It reads the verifier keys of the log, one or two, and of the witnesses (C2SP
 /// signed-note, "Verifier keys"), and fetches as `fetch_under` does, from a folder or over HTTP, from the log with
 /// the name of its keys. The options say how many requests are in flight at once. If `errors` is a terminal, it shows
@@ -384,6 +316,14 @@ pub fn run_fetch<
 ) -> Result<(), FetchFault>
     ensures { RunsFetch options.now (passage W.contents writer.old writer.new) result }
 {
-    let keys = log_keys(alloc, options)?;
-    fetch_by(rt, alloc, keys, options, writer, errors, is_terminal)
+    let NamedKeys { log, witnesses } = named_keys(alloc, options)?;
+    let origin = String::from_str(alloc, log.key.name())?;
+    let asked = Conditions {
+        origin: origin.as_str(),
+        witnesses: witnesses.as_slice(),
+        need: options.need,
+        since: since_of(rt, options.fresh),
+        under: None,
+    };
+    fetch_by(rt, alloc, log, asked, options, writer, errors, is_terminal)
 }

@@ -1,8 +1,8 @@
 //! Checks that one of the witnesses cosigned a checkpoint lately enough.
 
 ghost use Rattle.std.specs.Prelude.{IfErr, IfOk, MatchBool, OnOk, map};
-ghost use Rattle.tl_checkpoint.specs.Cosignature.{ChecksCosignature};
 ghost use Rattle.tl_fetch.specs.Command.{IsSinceOf};
+ghost use Rattle.tl_key.specs.NoteKey.{verifier_key};
 ghost use Rattle.tl_fetch.specs.Faults.{IsNoAccusation};
 ghost use Rattle.tl_fetch.specs.Inner.Freshness.{AllEarly, AreEarly, HasLate, IsEarly, IsLate, RefusesFresh, SomeLate};
 ghost use Rattle.tl_fetch.specs.Trusting.{IsFresh};
@@ -12,8 +12,9 @@ use crate::faults::BAD_CHECKPOINT;
 use crate::policy::Policy;
 use std::alloc::{AllocError, Global};
 use std::time::{Clock, SystemTime, UNIX_EPOCH};
-use tl_checkpoint::check_cosignature;
-use tl_note::{NoteFault, SigView, Verifier, parse_note};
+use tl_key::CosignerVerifier;
+use tl_note::{NoteFault, SigView, parse_note};
+use tl_policy::cosigned_at;
 use tl_run::RunFault;
 
 // Returns the seconds since 1970 that the clock reads. If it can't be read, it returns the most that there are, so
@@ -39,31 +40,19 @@ pub(crate) fn since_of<H: Clock>(rt: &H, fresh: Option<u64>) -> Option<u64>
     Some(seconds_now(rt).saturating_sub(seconds))
 }
 
-// Returns the time of the line, if it is a cosignature by the witness.
-fn time_by(
-    alloc: Global,
-    text: &str,
-    line: &SigView<'_>,
-    witness: &Box<dyn Verifier>,
-) -> Result<Option<u64>, AllocError>
-    ensures { IfOk result (ChecksCosignature text.now (key witness.now) line.now) }
-{
-    check_cosignature(alloc, text, line, &**witness)
-}
-
 // Reports whether the line is a cosignature by the witness of this time or later.
 fn is_late(
     alloc: Global,
     text: &str,
     line: &SigView<'_>,
-    witness: &Box<dyn Verifier>,
+    witness: &CosignerVerifier<Global>,
     since: u64,
 ) -> Result<bool, AllocError>
     ensures { IfOk result (λ late. MatchBool late
-        (IsLate text.now since (key witness.now) line.now)
-        (IsEarly text.now since (key witness.now) line.now)) }
+        (IsLate text.now since (verifier_key witness.now) line.now)
+        (IsEarly text.now since (verifier_key witness.now) line.now)) }
 {
-    let Some(time) = time_by(alloc, text, line, witness)? else {
+    let Some(time) = cosigned_at(alloc, text, line, witness)? else {
         return Ok(false);
     };
     Ok(since <= time)
@@ -74,12 +63,12 @@ fn has_line(
     alloc: Global,
     text: &str,
     lines: &[SigView<'_>],
-    witness: &Box<dyn Verifier>,
+    witness: &CosignerVerifier<Global>,
     since: u64,
 ) -> Result<bool, AllocError>
     ensures { IfOk result (λ found. MatchBool found
-        (HasLate text.now lines.now since (key witness.now))
-        (AreEarly text.now lines.now since (key witness.now))) }
+        (HasLate text.now lines.now since (verifier_key witness.now))
+        (AreEarly text.now lines.now since (verifier_key witness.now))) }
 {
     let [first, rest @ ..] = lines else {
         return Ok(false);
@@ -95,12 +84,12 @@ fn has_witness(
     alloc: Global,
     text: &str,
     lines: &[SigView<'_>],
-    witnesses: &[Box<dyn Verifier>],
+    witnesses: &[CosignerVerifier<Global>],
     since: u64,
 ) -> Result<bool, AllocError>
     ensures { IfOk result (λ found. MatchBool found
-        (SomeLate text.now lines.now since (map (λ w. key w) witnesses.now))
-        (AllEarly text.now lines.now since (map (λ w. key w) witnesses.now))) }
+        (SomeLate text.now lines.now since (map verifier_key witnesses.now))
+        (AllEarly text.now lines.now since (map verifier_key witnesses.now))) }
 {
     let [first, rest @ ..] = witnesses else {
         return Ok(false);
@@ -115,10 +104,10 @@ fn has_witness(
 /// no time, it doesn't read the note.
 pub(crate) fn check_fresh(alloc: Global, policy: &Policy<'_>, note: &str) -> Result<(), FetchFault>
     ensures fresh { OnOk result
-        (IsFresh note.now (map (λ w. key w) policy.now.witnesses.now) policy.now.since) }
+        (IsFresh note.now (map verifier_key policy.now.witnesses.now) policy.now.since) }
     ensures fair { IfErr result IsNoAccusation }
     ensures refused { IfErr result
-        (RefusesFresh note.now (map (λ w. key w) policy.now.witnesses.now) policy.now.since) }
+        (RefusesFresh note.now (map verifier_key policy.now.witnesses.now) policy.now.since) }
 {
     let Some(since) = policy.since else {
         return Ok(());

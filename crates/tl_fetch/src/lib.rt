@@ -37,9 +37,11 @@
 #![tactic(auto)]
 
 mod ahead;
+mod by_keys;
 mod by_policy;
 mod caching;
 mod command;
+mod conditions;
 mod cosigned;
 mod entry;
 mod fault;

@@ -1,16 +1,16 @@
-//! The log's keys that the options name.
+//! The keys that the options name.
 
 ghost use Rattle.std.specs.Prelude.{◌≡◌, ◌∷◌, [], IfErr, IfOk, MatchBool, Some, string_bytes};
 ghost use Rattle.tl_fetch.specs.Command.{HaveLogKeys, IsKeyFault, keys_of, log_texts};
-ghost use Rattle.tl_fetch.specs.Inner.LogKeys.{AreNotTwo, AreTold, AreTwo};
+ghost use Rattle.tl_fetch.specs.Inner.LogKeys.{AreNamed, AreNotTwo, AreTwo};
 ghost use Rattle.tl_key.specs.KeyText.{IsVerifierText};
 ghost use Rattle.tl_key.specs.NoteKey.{note_kind};
 
 use crate::fault::FetchFault;
 use crate::options::FetchOptions;
-use crate::witnesses::{check_keys, is_same, read_text};
+use crate::witnesses::{is_same, read_text, witness_keys};
 use std::alloc::Global;
-use tl_key::{Note, NoteVerifier};
+use tl_key::{CosignerVerifier, Note, NoteVerifier};
 use tl_note::Verifier;
 use tl_run::RunFault;
 
@@ -21,6 +21,15 @@ pub(crate) struct LogKeys {
     pub(crate) key: NoteVerifier<Global>,
     /// The other key, if the log has two.
     pub(crate) other: Option<NoteVerifier<Global>>,
+}
+
+/// The keys that the options name.
+#[derive(Drop)]
+pub(crate) struct NamedKeys {
+    /// The log's.
+    pub(crate) log: LogKeys,
+    /// The witnesses', in order.
+    pub(crate) witnesses: Vec<CosignerVerifier<Global>>,
 }
 
 // Returns the log's key whose text comes first.
@@ -68,22 +77,25 @@ fn second_key(
     Ok(other)
 }
 
-/// Returns the log's keys that the options name (C2SP signed-note, "Verifier keys"), if each of its witnesses has a
-/// public key of its own. It reads the log's texts first.
-pub(crate) fn log_keys(alloc: Global, options: &FetchOptions) -> Result<LogKeys, FetchFault>
-    ensures told { IfOk result
-        (λ keys. AreTold options.now keys.key.name (keys_of keys.key keys.other)) }
+/// Returns the keys that the options name (C2SP signed-note, "Verifier keys"), if each of the witnesses has a public
+/// key of its own. It reads the log's texts first.
+pub(crate) fn named_keys(alloc: Global, options: &FetchOptions) -> Result<NamedKeys, FetchFault>
+    ensures named { IfOk result (λ k. AreNamed options.now k.log.key.name
+        (keys_of k.log.key k.log.other) k.witnesses.items) }
     ensures refused { IfErr result (IsKeyFault options.now) }
 {
     let key = first_key(alloc, options)?;
     let Some(text) = &options.other_key else {
-        check_keys(alloc, options, &[*key.public_key()])?;
-        return Ok(LogKeys { key, other: None });
+        let witnesses = witness_keys(alloc, options, &[*key.public_key()])?;
+        let log = LogKeys { key, other: None };
+        return Ok(NamedKeys { log, witnesses });
     };
     let other = second_key(alloc, options, text, &key)?;
-    check_keys(alloc, options, &[*key.public_key(), *other.public_key()])?;
-    Ok(LogKeys {
+    let public = [*key.public_key(), *other.public_key()];
+    let witnesses = witness_keys(alloc, options, &public)?;
+    let log = LogKeys {
         key,
         other: Some(other),
-    })
+    };
+    Ok(NamedKeys { log, witnesses })
 }

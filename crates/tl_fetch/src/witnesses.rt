@@ -1,6 +1,6 @@
 //! The witnesses' keys that the options name.
 
-ghost use Rattle.std.specs.Prelude.{◌≡◌, ◌<◌, ◌↔◌, List, Contains, IfErr, IfOk, IsTrue, MatchBool, MatchOption, OnOk, length, vec_items};
+ghost use Rattle.std.specs.Prelude.{◌≡◌, ◌<◌, ◌↔◌, List, Contains, IfErr, IfOk, IsTrue, MatchBool, MatchOption, length, vec_items};
 ghost use Rattle.tl_fetch.specs.Command.{HaveLogKeys, HaveOwnKeys, IsKeyFault, log_texts, public_keys, witness_text, witness_texts};
 ghost use Rattle.tl_key.specs.KeyText.{IsVerifierText};
 ghost use Rattle.tl_hash.specs.Bytes.{Bytes};
@@ -28,8 +28,8 @@ pub(crate) fn read_text<K: KeyKind>(
     }
 }
 
-/// Returns the witness's verifier key whose text has this index.
-pub(crate) fn witness_key(
+// Returns the witness's verifier key whose text has this index.
+fn witness_key(
     alloc: Global,
     options: &FetchOptions,
     place: usize,
@@ -64,27 +64,30 @@ fn is_among(known: &[[u8; 32]], key: &[u8; 32]) -> bool
     false
 }
 
-/// Checks that each witness's key has a public key of its own, so that nobody counts twice under two names, and that
-/// none of the log's keys counts for a witness. It fails with `SharedKey` of the first key that doesn't, and with
-/// `BadWitness` of the first text that is no key's.
-pub(crate) fn check_keys(
+/// Returns the verifier keys of the witnesses, in order (C2SP signed-note, "Verifier keys"), if each has a public key
+/// of its own, so that nobody counts twice under two names, and none has one of the log's. It fails with `SharedKey`
+/// of the first that hasn't, and with `BadWitness` of the first text that is no key's.
+pub(crate) fn witness_keys(
     alloc: Global,
     options: &FetchOptions,
     log: &[[u8; 32]],
-) -> Result<(), FetchFault>
+) -> Result<Vec<CosignerVerifier<Global>>, FetchFault>
     requires { (name : Bytes) × (keys : List PublicKey)
         × HaveLogKeys name (log_texts options.now) keys × (log.now ≡ public_keys keys) }
-    ensures own { OnOk result (HaveOwnKeys log.now (witness_texts options.now)) }
+    ensures own { IfOk result
+        (λ keys. HaveOwnKeys log.now (witness_texts options.now) keys.items) }
     ensures refused { IfErr result (IsKeyFault options.now) }
 {
     let mut known = Vec::new(alloc);
     known.extend_from_slice(log)?;
+    let mut keys = Vec::new(alloc);
     for place in 0..options.witnesses.len() {
         let key = witness_key(alloc, options, place)?;
         if is_among(known.as_slice(), key.public_key()) {
             return Err(FetchFault::SharedKey(place as u64));
         }
         known.push(*key.public_key())?;
+        keys.push(key)?;
     }
-    Ok(())
+    Ok(keys)
 }

@@ -1,6 +1,7 @@
 pub mod Terms
 pub mod Satisfied
 pub mod PolicyText
+pub mod Quorum
 pub mod ReadPolicy
 pub mod Cosigned
 pub mod Need

@@ -26,24 +26,35 @@ fn time_by<A: Allocator + Copy>(
     check_cosignature(alloc, text, line, verifier)
 }
 
-// The time of the first cosignature by a public key, that of the verifier.
+/// Returns the time of a line, if it is a witness's cosignature of this text by this key (C2SP tlog-cosignature). It
+/// fails only if memory runs out.
+pub fn cosigned_at<A: Allocator + Copy>(
+    alloc: A,
+    text: &str,
+    line: &SigView<'_>,
+    key: &CosignerVerifier<Global>,
+) -> Result<Option<u64>, AllocError>
+    ensures { IfOk result (ChecksCosignature text.now (verifier_key key.now) line.now) }
+{
+    time_by(alloc, text, line, key, key)
+}
+
+// The time of the first cosignature by a key.
 fn first_time<A: Allocator + Copy>(
     alloc: A,
     text: &str,
     lines: &[SigView<'_>],
-    public: &CosignerVerifier<Global>,
-    verifier: &dyn Verifier,
+    key: &CosignerVerifier<Global>,
 ) -> Result<Option<u64>, AllocError>
-    requires { key verifier.now ≡ verifier_key public.now }
-    ensures { IfOk result (IsFirstTime text.now public.now lines.now) }
+    ensures { IfOk result (IsFirstTime text.now key.now lines.now) }
 {
     let [line, rest @ ..] = lines else {
         return Ok(None);
     };
-    if let Some(time) = time_by(alloc, text, line, public, verifier)? {
+    if let Some(time) = cosigned_at(alloc, text, line, key)? {
         return Ok(Some(time));
     }
-    first_time(alloc, text, rest, public, verifier)
+    first_time(alloc, text, rest, key)
 }
 
 impl<'t, A: Allocator + Copy> Policy<'t, A> {
@@ -60,7 +71,7 @@ impl<'t, A: Allocator + Copy> Policy<'t, A> {
     {
         let mut times = Vec::new(alloc);
         for witness in self.witnesses.as_slice() {
-            times.push(first_time(alloc, text, lines, &witness.key, &witness.key)?)?;
+            times.push(first_time(alloc, text, lines, &witness.key)?)?;
         }
         Ok(times)
     }

@@ -28,12 +28,14 @@ mod law;
 mod lines;
 mod naming;
 mod policy;
+mod quorum;
 mod reading;
 mod satisfied;
 mod trust;
 mod trust_fault;
 mod words;
 
+pub use cosigned::cosigned_at;
 pub use fault::PolicyFault;
 pub use law::{more_witnesses_satisfy, need_is_a_policy};
 pub use policy::{Member, Policy, PolicyGroup, PolicyLog, PolicyWitness};

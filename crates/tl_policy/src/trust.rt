@@ -4,12 +4,12 @@ ghost use Rattle.std.specs.Prelude.{◌≡◌, IfOk, position};
 ghost use Rattle.std.specs.List.{list_any};
 ghost use Rattle.tl_key.specs.NoteKey.{verifier_key};
 ghost use Rattle.tl_note.specs.Open as note;
-ghost use Rattle.tl_policy.specs.Cosigned.{cosigners};
 ghost use Rattle.tl_policy.specs.Terms.{log_term, terms_of};
 ghost use Rattle.tl_policy.specs.Trust.{OpensUnder, has_line, is_signed};
 ghost use Rattle.tl_policy.specs.Inner.Trusting.{ChecksQuorum, ReadsSigned};
 
 use crate::policy::{Policy, PolicyLog};
+use crate::quorum::set_of;
 use crate::trust_fault::TrustFault;
 use std::alloc::{AllocError, Allocator, Global};
 use tl_checkpoint::{Checkpoint, CheckpointFault, parse};
@@ -91,17 +91,6 @@ fn checkpoint_of<A: Allocator + Copy>(
         return Err(TrustFault::OtherOrigin);
     }
     Ok(checkpoint)
-}
-
-// The set of those that have a time.
-fn set_of<A: Allocator>(alloc: A, times: &[Option<u64>]) -> Result<Vec<bool, A>, AllocError>
-    ensures { IfOk result (λ set. set.items ≡ cosigners times.now) }
-{
-    let mut set = Vec::new(alloc);
-    for time in times {
-        set.push(time.is_some())?;
-    }
-    Ok(set)
 }
 
 // Refuses times of witnesses that don't satisfy the quorum.

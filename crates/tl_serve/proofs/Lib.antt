@@ -3,4 +3,5 @@ pub mod Driven
 pub mod Ends
 pub mod InTurn
 pub mod Lists
+pub mod Proposals
 pub mod Shelves

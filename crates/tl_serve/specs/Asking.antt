@@ -1,8 +1,9 @@
 -- Who must cosign what a log shows (C2SP tlog-cosignature; signed-note, "Verifier keys").
-use Rattle.std.specs.Prelude.{◌≡◌, ◌⊎◌, [], ◌∷◌, List, Result, Ok, Err, map, string_bytes, vec_items}
+use Rattle.std.specs.Prelude.{◌≡◌, ◌≢◌, ◌⊎◌, [], ◌∷◌, List, Result, Err, map, option_map, string_bytes, vec_items}
+use Rattle.std.specs.List.{AllPairs}
 use Rattle.tl_hash.specs.Bytes.{Bytes}
 use Rattle.tl_key.specs.KeyText.{IsVerifierText}
-use Rattle.tl_key.specs.NoteKey.{PublicKey, cosignature_kind}
+use Rattle.tl_key.specs.NoteKey.{PublicKey, cosignature_kind, verifier_key}
 use Rattle.tl_ledger.specs.Opening.{Found}
 use Rattle.tl_run.specs.declared.fault.RunFault.{RunFault}
 use Rattle.tl_append.specs.Cosigning.{Quorum}
@@ -17,11 +18,19 @@ AreKeysOf [] (key ∷ keys) = ⊥
 AreKeysOf (text ∷ texts) [] = ⊥
 AreKeysOf (text ∷ texts) (key ∷ keys) = IsVerifierText cosignature_kind text key × AreKeysOf texts keys
 
--- as many witnesses as the options ask for, if each that they name is named by the text of a witness's key
+-- two keys have neither one name nor one public key
+abbrev pub AreApart : PublicKey → PublicKey → Type 0
+AreApart a b = (a.name ≢ b.name) × (a.key ≢ b.key)
+
+-- as many as the options ask for of the witnesses that they name, each by the text of a key with a name and a public
+-- key of its own; and what the text of a policy says, if they have one
 pub record IsQuorumOf (options : ServeOptions) (q : Quorum) : Type 0 where
   pub keys : List PublicKey
   pub spelled : AreKeysOf (map (λ w. string_bytes w.key) (vec_items options.witnesses)) keys
+  pub apart : AllPairs AreApart keys
+  pub witnesses : q.witnesses ≡ map verifier_key keys
   pub need : q.need ≡ options.need
+  pub policy : q.policy ≡ option_map string_bytes options.quorum
 
 -- how a log is served whose checkpoints are shown once enough of these witnesses have cosigned them; or nothing was
 -- written

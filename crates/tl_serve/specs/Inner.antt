@@ -19,5 +19,3 @@ pub
     mod Stating
 pub
     mod Telling
-pub
-    mod Quorums

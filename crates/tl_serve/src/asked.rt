@@ -1,13 +1,14 @@
 //! The keys and the addresses of the witnesses that a log asks.
 
-ghost use Rattle.std.specs.Prelude.{◌≡◌, IfOk, IfSome, map, string_bytes};
+ghost use Rattle.std.specs.Prelude.{◌≡◌, ◌↔◌, All, AllPairs, IfOk, IsTrue, MatchBool, map, string_bytes};
 ghost use Rattle.tl_key.specs.KeyText.{IsVerifierText};
 ghost use Rattle.tl_key.specs.NoteKey.{cosignature_kind};
-ghost use Rattle.tl_serve.specs.Asking.{AreKeysOf};
+ghost use Rattle.tl_serve.specs.Asking.{AreApart, AreKeysOf};
 
 use crate::options::AskedWitness;
 use std::alloc::{AllocError, Global};
 use tl_key::{CosignerVerifier, KeyFault, read_verifier_key};
+use tl_note::Verifier;
 use tl_run::RunFault;
 use tl_source::Url;
 
@@ -22,16 +23,55 @@ fn key_of(alloc: Global, text: &str) -> Result<CosignerVerifier<Global>, RunFaul
     }
 }
 
-/// Returns the verifier keys of these witnesses, in order. Fails with `BadKey` if a text spells none.
+// Reports whether two keys have one name.
+fn have_one_name(one: &CosignerVerifier<Global>, other: &CosignerVerifier<Global>) -> bool
+    ensures { IsTrue result ↔ (one.now.name ≡ other.now.name) }
+{
+    one.name() == other.name()
+}
+
+// Reports whether two public keys are the same.
+fn is_same(one: &[u8; 32], other: &[u8; 32]) -> bool
+    ensures { IsTrue result ↔ (one.now ≡ other.now) }
+{
+    one == other
+}
+
+// Reports whether two keys have one name or one public key.
+fn are_alike(one: &CosignerVerifier<Global>, other: &CosignerVerifier<Global>) -> bool
+    ensures { MatchBool result (Unit {0}) (AreApart one.now other.now) }
+{
+    have_one_name(one, other) || is_same(one.public_key(), other.public_key())
+}
+
+// Reports whether one of these keys has the name or the public key of another.
+fn has_alike(keys: &[CosignerVerifier<Global>], other: &CosignerVerifier<Global>) -> bool
+    ensures { MatchBool result (Unit {0}) (All (λ key. AreApart key other.now) keys.now) }
+{
+    for key in keys {
+        if are_alike(key, other) {
+            return true;
+        }
+    }
+    false
+}
+
+/// Returns the verifier keys of these witnesses, in order. Fails with `BadKey` if a text spells none, or has the name
+/// or the public key of one before it.
 pub(crate) fn keys_of_asked(
     alloc: Global,
     asked: &[AskedWitness],
 ) -> Result<Vec<CosignerVerifier<Global>>, RunFault>
-    ensures { IfOk result (λ keys. AreKeysOf (map (λ w. string_bytes w.key) asked.now) keys.items) }
+    ensures spelled { IfOk result
+        (λ keys. AreKeysOf (map (λ w. string_bytes w.key) asked.now) keys.items) }
+    ensures apart { IfOk result (λ keys. AllPairs AreApart keys.items) }
 {
     let mut keys = Vec::new(alloc);
     for witness in asked {
         let key = key_of(alloc, witness.key.as_str())?;
+        if has_alike(keys.as_slice(), &key) {
+            return Err(RunFault::BadKey);
+        }
         keys.push(key)?;
     }
     Ok(keys)

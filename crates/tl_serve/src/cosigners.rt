@@ -1,98 +1,34 @@
 //! The threads that ask witnesses to cosign what a log proposes, and what waits for them.
 
-ghost use Rattle.std.specs.Prelude.{◌≡◌, IfOk, IsTrue, Ok};
-ghost use Rattle.tl_policy.specs.Cosigned.{cosigners};
-ghost use Rattle.tl_policy.specs.ReadPolicy.{ReadsPolicy};
-ghost use Rattle.tl_policy.specs.Terms.{terms_of};
-ghost use Rattle.tl_serve.specs.Inner.Quorums.{AreTimesOf, Satisfies};
-
 use crate::options::AskedWitness;
 use crate::shared_writer::SharedWriter;
-use std::alloc::{AllocError, Global};
+use std::alloc::Global;
 use std::io::Write;
 use std::net::{Net, TcpStream};
 use std::slice;
 use std::sync::Wait;
 use std::thread::{JoinHandle, Scope};
 use std::time::{Clock, Duration};
-use tl_append::{AsksCosigners, ProposalStore};
+use tl_append::{AsksCosigners, ChecksCosigned, ProposalStore};
 use tl_archive::Shelf;
 use tl_device::Counted;
 use tl_feed::{Ballot, BallotEvent, HttpWitness, LogIdentity, ShelfReader, Unasked, ask_in_rounds};
-use tl_note::{NoteFault, Verifier, parse_note};
-use tl_policy::{Policy, PolicyFault, parse_policy};
+use tl_key::CosignerVerifier;
+use tl_note::Verifier;
 use tl_run::{RunFault, print_text};
 use tl_source::Url;
 
 /// Proposes notes for the threads of a ballot to ask about, waits until enough witnesses have
 /// cosigned, and reports why others haven't.
 #[derive(Drop)]
-pub(crate) struct Proposer<'b, 'w, H, L> {
+pub(crate) struct Proposer<'b, 'w, H, L, C> {
     pub(crate) rt: &'b H,
     pub(crate) alloc: Global,
     pub(crate) ballot: &'b Ballot,
     pub(crate) asked: &'b [AskedWitness],
     pub(crate) need: usize,
-    /// The text of the policy that they must satisfy, too.
-    pub(crate) quorum: Option<&'b str>,
+    pub(crate) quorum: C,
     pub(crate) out: Counted<SharedWriter<'b, 'w, H, L>>,
-}
-
-// Returns the policy that a text is. Fails with `Operator` if it is none.
-fn policy_of(alloc: Global, text: &str) -> Result<Policy<'_, Global>, RunFault>
-    ensures { IfOk result (λ p. ReadsPolicy text.now (Ok (terms_of p))) }
-{
-    match parse_policy(alloc, alloc, text) {
-        Ok(policy) => Ok(policy),
-        Err(PolicyFault::OutOfMemory) => Err(RunFault::OutOfMemory),
-        Err(_) => Err(RunFault::Operator),
-    }
-}
-
-// Returns when each witness of a policy cosigned a note. Fails with `Operator` if it is none.
-fn times_of(
-    alloc: Global,
-    policy: &Policy<'_, Global>,
-    note: &str,
-) -> Result<Vec<Option<u64>>, RunFault>
-    ensures { IfOk result (λ times. AreTimesOf note.now (terms_of policy.now) times.items) }
-{
-    let view = match parse_note(alloc, note) {
-        Ok(view) => view,
-        Err(NoteFault::OutOfMemory) => return Err(RunFault::OutOfMemory),
-        Err(_) => return Err(RunFault::Operator),
-    };
-    match policy.cosigned_by(alloc, view.text, view.signatures.as_slice()) {
-        Ok(times) => Ok(times),
-        Err(_) => Err(RunFault::OutOfMemory),
-    }
-}
-
-// Returns the set of those that have a time.
-fn set_of(alloc: Global, times: &[Option<u64>]) -> Result<Vec<bool>, AllocError>
-    ensures { IfOk result (λ set. set.items ≡ cosigners times.now) }
-{
-    let mut set = Vec::new(alloc);
-    for time in times {
-        set.push(time.is_some())?;
-    }
-    Ok(set)
-}
-
-// Reports whether the witnesses that cosigned a note satisfy the quorum of the policy that a text is.
-fn satisfy(alloc: Global, text: &str, note: &str) -> Result<bool, RunFault>
-    ensures { IfOk result (λ met. IsTrue met → Satisfies text.now note.now) }
-{
-    let policy = match policy_of(alloc, text) {
-        Ok(policy) => policy,
-        Err(fault) => return Err(fault),
-    };
-    let times = match times_of(alloc, &policy, note) {
-        Ok(times) => times,
-        Err(fault) => return Err(fault),
-    };
-    let set = set_of(alloc, times.as_slice())?;
-    Ok(policy.is_satisfied(set.as_slice()))
 }
 
 // Returns the name that the text of a verifier key begins with.
@@ -103,7 +39,7 @@ fn name_of(text: &str) -> &str {
     }
 }
 
-impl<H: Wait, L: Write> Proposer<'_, '_, H, L> {
+impl<H: Wait, L: Write, C: ChecksCosigned> Proposer<'_, '_, H, L, C> {
     // Reports why a witness gave no cosignature.
     fn tell(&mut self, place: usize, why: Unasked) -> Result<(), RunFault> {
         let Some(witness) = self.asked.get(place) else {
@@ -126,22 +62,21 @@ impl<H: Wait, L: Write> Proposer<'_, '_, H, L> {
         Err(RunFault::Operator)
     }
 
-    // Reports whether lines behind a note satisfy the policy, if there is one.
+    // Reports whether the lines behind a note make up the quorum.
     fn is_enough(&self, note: &str, lines: &str) -> Result<bool, RunFault> {
-        match self.quorum {
-            Some(quorum) => {
-                let mut whole = String::from_str(self.alloc, note)?;
-                whole.push_str(lines)?;
-                satisfy(self.alloc, quorum, whole.as_str())
-            }
-            None => Ok(true),
+        let mut whole = String::from_str(self.alloc, note)?;
+        whole.push_str(lines)?;
+        match self.quorum.check(self.alloc, whole.as_str()) {
+            Ok(()) => Ok(true),
+            Err(RunFault::OutOfMemory) => Err(RunFault::OutOfMemory),
+            Err(_) => Ok(false),
         }
     }
 }
 
-impl<H: Wait, L: Write> AsksCosigners for Proposer<'_, '_, H, L> {
+impl<H: Wait, L: Write, C: ChecksCosigned> AsksCosigners for Proposer<'_, '_, H, L, C> {
     fn ask<P: ProposalStore>(&mut self, _store: &P, note: &str) -> Result<String, RunFault> {
-        // If as many as are needed don't satisfy the policy, one more is asked for; each answers again at once.
+        // If as many as are needed don't satisfy a policy, one more is asked for; each answers again at once.
         for need in self.need..=self.asked.len().max(self.need) {
             self.ballot.propose(self.rt, note)?;
             let lines = self.lines_of(need)?;
@@ -161,7 +96,7 @@ pub(crate) struct Asking<'b, H> {
     pub(crate) ballot: &'b Ballot,
     pub(crate) origin: &'b str,
     pub(crate) log: &'b [Box<dyn Verifier>],
-    pub(crate) witnesses: &'b [Box<dyn Verifier>],
+    pub(crate) witnesses: &'b [CosignerVerifier<Global>],
     pub(crate) urls: &'b [Url<'b>],
     pub(crate) limit: Duration,
 }

@@ -1,10 +1,13 @@
 //! The command `serve` on a shelf, if witnesses must have cosigned what is shown.
 
-ghost use Rattle.std.specs.Prelude.{◌≡◌, ◌⊎◌, Err, IfOk, map, string_bytes, vec_items};
+ghost use Rattle.std.specs.Prelude.{◌≡◌, ◌⊎◌, AllPairs, Err, IfOk, false, map, option_map, string_bytes, true, vec_items};
 ghost use Rattle.tl_device.specs.Device.{passage};
+ghost use Rattle.tl_key.specs.NoteKey.{verifier_key};
 ghost use Rattle.tl_run.specs.Origins.{RefusesOrigin};
-ghost use Rattle.tl_append.specs.Running.{BeginsAsAsked, visit};
-ghost use Rattle.tl_serve.specs.Asking.{AreKeysOf, ServesCosigned};
+ghost use Rattle.tl_append.specs.Running.{BeginsAsAsked, HasOwnProposal, visit};
+ghost use Rattle.tl_ledger.specs.Marks.{IsWithin};
+ghost use Rattle.tl_ledger.specs.Opening.{found_size};
+ghost use Rattle.tl_serve.specs.Asking.{AreApart, AreKeysOf, ServesCosigned};
 ghost use Rattle.tl_serve.specs.Serving.{IsLeft, Serves};
 
 use crate::asked::{keys_of_asked, urls_of_asked};
@@ -26,7 +29,6 @@ use tl_append::{
     keys_of,
 };
 use tl_archive::Shelf;
-use tl_checkpoint::have_distinct_names;
 use tl_device::Counted;
 use tl_feed::Ballot;
 use tl_key::CosignerVerifier;
@@ -71,8 +73,9 @@ fn prepare<'o, H: Host>(
     alloc: Global,
     options: &'o ServeOptions,
 ) -> Result<Ready<'o>, RunFault>
-    ensures { IfOk result (λ r. AreKeysOf
+    ensures spelled { IfOk result (λ r. AreKeysOf
         (map (λ w. string_bytes w.key) (vec_items options.now.witnesses)) r.witnesses.items) }
+    ensures apart { IfOk result (λ r. AllPairs AreApart r.witnesses.items) }
 {
     let asked = options.witnesses.as_slice();
     let witnesses = keys_of_asked(alloc, asked)?;
@@ -107,7 +110,7 @@ fn serve_in<
     A: AsksInRounds<P> + Sync,
     S: Shelf + Drop,
     T: ProposalStore + Drop,
-    C: ChecksCosigned + Drop,
+    C: ChecksCosigned + Copy,
     P: Shelf + Send + Drop + 's,
     R: Read + Send,
     L: Write,
@@ -129,6 +132,12 @@ fn serve_in<
         (visit S.kept S.trace log.shelf result.served.shelf) result.served.outcome }
     ensures fresh { IsLeft (visit S.kept S.trace log.shelf result.served.shelf)
         ⊎ BeginsAsAsked options.now.is_new result.found.head }
+    ensures newest { IsLeft (visit S.kept S.trace log.shelf result.served.shelf)
+        ⊎ HasOwnProposal options.now.key (string_bytes options.now.origin)
+        (T.may_have log.store) (found_size result.found.head) }
+    ensures within { options.now.allows_older ≡ false → S.is_honest ≡ true
+        → IsLeft (visit S.kept S.trace log.shelf result.served.shelf)
+        ⊎ IsWithin (found_size result.found.head) (S.published log.shelf) }
     ensures place { S.place result.served.shelf ≡ S.place log.shelf }
 {
     let CosignedLog {
@@ -150,7 +159,7 @@ fn serve_in<
         ballot,
         asked: options.witnesses.as_slice(),
         need: usize::try_from(options.need).unwrap_or(usize::MAX),
-        quorum: options.quorum.as_deref(),
+        quorum,
         out: Counted::new(SharedWriter { rt, out }),
     };
     let keeps = options.keeps_partials;
@@ -171,7 +180,7 @@ fn serve_asked<
     A: AsksInRounds<P> + Sync,
     S: Shelf + Drop,
     T: ProposalStore + Drop,
-    C: ChecksCosigned + Drop,
+    C: ChecksCosigned + Copy,
     P: Shelf + Send + Drop,
     R: Read + Send,
     L: Write,
@@ -192,6 +201,12 @@ fn serve_asked<
         (visit S.kept S.trace log.shelf result.served.shelf) result.served.outcome }
     ensures fresh { IsLeft (visit S.kept S.trace log.shelf result.served.shelf)
         ⊎ BeginsAsAsked options.now.is_new result.found.head }
+    ensures newest { IsLeft (visit S.kept S.trace log.shelf result.served.shelf)
+        ⊎ HasOwnProposal options.now.key (string_bytes options.now.origin)
+        (T.may_have log.store) (found_size result.found.head) }
+    ensures within { options.now.allows_older ≡ false → S.is_honest ≡ true
+        → IsLeft (visit S.kept S.trace log.shelf result.served.shelf)
+        ⊎ IsWithin (found_size result.found.head) (S.published log.shelf) }
     ensures place { S.place result.served.shelf ≡ S.place log.shelf }
 {
     thread::scope(
@@ -204,6 +219,12 @@ fn serve_asked<
                 result.served.outcome }
             ensures fresh { IsLeft (visit S.kept S.trace log.shelf result.served.shelf)
                 ⊎ BeginsAsAsked options.entry.now.is_new result.found.head }
+            ensures newest { IsLeft (visit S.kept S.trace log.shelf result.served.shelf)
+                ⊎ HasOwnProposal options.entry.now.key (string_bytes options.entry.now.origin)
+                (T.may_have log.store) (found_size result.found.head) }
+            ensures within { options.entry.now.allows_older ≡ false → S.is_honest ≡ true
+                → IsLeft (visit S.kept S.trace log.shelf result.served.shelf)
+                ⊎ IsWithin (found_size result.found.head) (S.published log.shelf) }
             ensures place { S.place result.served.shelf ≡ S.place log.shelf }
         {
             serve_in(
@@ -232,15 +253,23 @@ fn serve_keyed<
     out: &mut Counted<L>,
 ) -> Served<S>
     ensures serves { Serves options.now.key (string_bytes options.now.origin) (record {
-      witnesses = map (λ w. key w) asker.now.witnesses.now;
+      witnesses = map verifier_key asker.now.witnesses.now;
       need = options.now.need;
+      policy = option_map string_bytes options.now.quorum;
     }) found.new (visit S.kept S.trace log.shelf result.shelf) result.outcome }
     ensures fresh { IsLeft (visit S.kept S.trace log.shelf result.shelf)
         ⊎ BeginsAsAsked options.now.is_new found.new.head }
+    ensures newest { IsLeft (visit S.kept S.trace log.shelf result.shelf)
+        ⊎ HasOwnProposal options.now.key (string_bytes options.now.origin)
+        (T.may_have log.store) (found_size found.new.head) }
+    ensures within { options.now.allows_older ≡ false → S.is_honest ≡ true
+        → IsLeft (visit S.kept S.trace log.shelf result.shelf)
+        ⊎ IsWithin (found_size found.new.head) (S.published log.shelf) }
     ensures place { S.place result.shelf ≡ S.place log.shelf }
 {
     let (rt, alloc, ballot) = (asker.rt, asker.alloc, asker.ballot);
-    let quorum = LogQuorum::new(asker.log, asker.witnesses, options.need);
+    let policy = options.quorum.as_deref();
+    let quorum = LogQuorum::new(asker.log, asker.witnesses, options.need, policy);
     let out = Mutex::new(&mut *out);
     let ended = serve_asked(
         rt, alloc, options, site, ballot, asker, quorum, log, reader, &out,
@@ -251,9 +280,9 @@ fn serve_keyed<
 
 /// Serves as `run_serve_shelf` does, but shows a checkpoint only once enough witnesses have cosigned it (C2SP
 /// tlog-witness, tlog-cosignature). It is kept as a proposal, and a thread for each witness asks, with proofs from a
-/// shelf of its own. If a witness gives no cosignature, the reason is printed to `out`, and it is asked again after a
-/// pause. Until then readers see the last one shown. Fails with `BadKey` if a text is no witness's key, or two have
-/// one name, and with `Malformed` if one is no address.
+/// shelf of its own. If one gives no cosignature, the reason is printed to `out`, and it is asked again after a pause.
+/// Until then readers see the last one shown. Fails with `BadKey` if a text is no witness's key, or two have one name
+/// or public key, and with `Malformed` if one is no address.
 pub fn run_serve_cosigned<
     H: Host + Net<Listener = TcpListener, Stream = TcpStream>,
     S: Shelf + Drop,
@@ -275,6 +304,12 @@ pub fn run_serve_cosigned<
         (visit S.kept S.trace log.shelf result.shelf) result.outcome }
     ensures fresh { IsLeft (visit S.kept S.trace log.shelf result.shelf)
         ⊎ BeginsAsAsked options.now.is_new found.new.head }
+    ensures newest { IsLeft (visit S.kept S.trace log.shelf result.shelf)
+        ⊎ HasOwnProposal options.now.key (string_bytes options.now.origin)
+        (T.may_have log.store) (found_size found.new.head) }
+    ensures within { options.now.allows_older ≡ false → S.is_honest ≡ true
+        → IsLeft (visit S.kept S.trace log.shelf result.shelf)
+        ⊎ IsWithin (found_size found.new.head) (S.published log.shelf) }
     ensures place { S.place result.shelf ≡ S.place log.shelf }
 {
     let ready = match prepare(rt, alloc, options) {
@@ -285,18 +320,6 @@ pub fn run_serve_cosigned<
         Ok(own) => own,
         Err(_) => return given_back(log, RunFault::OutOfMemory),
     };
-    let mut witnesses: Vec<Box<dyn Verifier>> = Vec::new(alloc);
-    for key in ready.witnesses {
-        let Ok(witness) = Box::new(alloc, key) else {
-            return given_back(log, RunFault::OutOfMemory);
-        };
-        if witnesses.push(witness).is_err() {
-            return given_back(log, RunFault::OutOfMemory);
-        }
-    }
-    if !have_distinct_names(witnesses.as_slice()) {
-        return given_back(log, RunFault::BadKey);
-    }
     let site = site.with_ballot(&ready.ballot);
     let asker = Asking {
         rt,
@@ -304,7 +327,7 @@ pub fn run_serve_cosigned<
         ballot: &ready.ballot,
         origin: options.origin.as_str(),
         log: &[own],
-        witnesses: witnesses.as_slice(),
+        witnesses: ready.witnesses.as_slice(),
         urls: ready.urls.as_slice(),
         limit: Duration::from_secs(options.server.timeout),
     };

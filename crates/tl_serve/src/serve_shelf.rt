@@ -1,14 +1,16 @@
 //! The command `serve` on a shelf: a running log over HTTP that outlives its server.
 
-ghost use Rattle.std.specs.Prelude.{◌≡◌, ◌⊎◌, ◌∷◌, [], All, IfOk, OnOk, string_bytes};
+ghost use Rattle.std.specs.Prelude.{◌≡◌, ◌⊎◌, ◌∷◌, [], All, IfOk, OnOk, false, string_bytes, true};
 ghost use Rattle.sha2.specs.Sha256.{sha256};
 ghost use Rattle.tl_device.specs.Device.{passage};
 ghost use Rattle.tl_note.specs.Key.{IsKeyName};
 ghost use Rattle.tl_sequencer.specs.Log.{IsSenderOf};
+ghost use Rattle.tl_ledger.specs.Marks.{IsWithin};
 ghost use Rattle.tl_ledger.specs.Opening.{Opens, found_size};
 ghost use Rattle.tl_run.specs.Origins.{RefusesOrigin};
 ghost use Rattle.tl_append.specs.Keys.{log_key_of, opening_key_of};
-ghost use Rattle.tl_append.specs.Running.{BeginsAsAsked, IsStart, visit};
+ghost use Rattle.tl_append.specs.Proposing.{HasProposal};
+ghost use Rattle.tl_append.specs.Running.{BeginsAsAsked, HasOwnProposal, IsStart, visit};
 ghost use Rattle.tl_serve.specs.Serving.{IsLeft, Serves};
 ghost use Rattle.tl_serve.specs.Inner.Shelved.{IsClosed, ServesUnder};
 
@@ -104,6 +106,10 @@ fn open_log<S: LogShelf + Drop, P: Drop, R: Read>(
 ) -> Result<Opened<P>, RunFault>
     ensures start { OnOk result (IsStart start (found_size found.new.head)) }
     ensures fresh { OnOk result (BeginsAsAsked options.now.is_new found.new.head) }
+    ensures newest { OnOk result (HasProposal (S.may_have shelf.old)
+        (opening_key_of verifier ∷ []) (found_size found.new.head)) }
+    ensures within { options.now.allows_older ≡ false → S.is_honest ≡ true
+        → OnOk result (IsWithin (found_size found.new.head) (S.published shelf.old)) }
     ensures opens { IfOk result (λ o.
         Opens sha256 (opening_key_of verifier ∷ []) found.new o.log.ledger) }
     ensures left { (S.kept shelf.new ≡ S.kept shelf.old) × (S.trace shelf.new ≡ S.trace shelf.old) }
@@ -208,6 +214,11 @@ fn serve_under<
         ⊎ IsStart start (found_size found.new.head) }
     ensures fresh { IsLeft (visit S.kept S.trace shelf result.shelf)
         ⊎ BeginsAsAsked server.now.options.now.is_new found.new.head }
+    ensures newest { IsLeft (visit S.kept S.trace shelf result.shelf)
+        ⊎ HasProposal (S.may_have shelf) (opening_key_of keys.verifier ∷ []) (found_size found.new.head) }
+    ensures within { server.now.options.now.allows_older ≡ false → S.is_honest ≡ true
+        → IsLeft (visit S.kept S.trace shelf result.shelf)
+        ⊎ IsWithin (found_size found.new.head) (S.published shelf) }
     ensures place { S.place result.shelf ≡ S.place shelf }
 {
     let OperatorKeys { signer, verifier } = keys;
@@ -277,6 +288,12 @@ pub fn run_serve_shelf<
         ⊎ IsStart start (found_size found.new.head) }
     ensures fresh { IsLeft (visit S.kept S.trace shelf result.shelf)
         ⊎ BeginsAsAsked options.now.is_new found.new.head }
+    ensures newest { IsLeft (visit S.kept S.trace shelf result.shelf)
+        ⊎ HasOwnProposal options.now.key (string_bytes options.now.origin)
+        (S.may_have shelf) (found_size found.new.head) }
+    ensures within { options.now.allows_older ≡ false → S.is_honest ≡ true
+        → IsLeft (visit S.kept S.trace shelf result.shelf)
+        ⊎ IsWithin (found_size found.new.head) (S.published shelf) }
     ensures place { S.place result.shelf ≡ S.place shelf }
 {
     let origin = options.origin.as_str();

@@ -7,7 +7,7 @@ use std::alloc::Global;
 use tl_client::{Head, ResourceSource};
 use tl_device::DeviceFault;
 use tl_feed::{AsksWitness, Proposed, Unasked, line_of};
-use tl_note::Verifier;
+use tl_key::CosignerVerifier;
 
 /// Asks the witnesses of a policy, and reports why one gave no cosignature. Witnesses are counted from 0; the keys of
 /// one name that follow one another are one witness's.
@@ -39,7 +39,7 @@ fn line_at<S: ResourceSource, Q: AsksWitnesses>(
     note: &str,
     head: &Head,
     known: u64,
-    keys: &[Box<dyn Verifier>],
+    keys: &[CosignerVerifier<Global>],
     witnesses: &Q,
     place: usize,
 ) -> Result<String, Unasked>
@@ -67,7 +67,7 @@ pub(crate) fn line_by<S: ResourceSource, Q: AsksWitnesses>(
     note: &str,
     head: &Head,
     known: u64,
-    keys: &[Box<dyn Verifier>],
+    keys: &[CosignerVerifier<Global>],
     witnesses: &mut Q,
     place: usize,
 ) -> Option<String>

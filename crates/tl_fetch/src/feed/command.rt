@@ -1,30 +1,32 @@
 //! The command `feed`.
 
-ghost use Rattle.std.specs.Prelude.{◌≡◌, None, map, string_bytes};
+ghost use Rattle.std.specs.Prelude.{◌≡◌, map, string_bytes};
 ghost use Rattle.tl_device.specs.Device.{passage};
-ghost use Rattle.tl_fetch.specs.Command.{IsSinceOf, keys_of};
+ghost use Rattle.tl_fetch.specs.Command.{keys_of};
 ghost use Rattle.tl_fetch.specs.FeedCommand.{RunsFeed, RunsFeedUnder};
 ghost use Rattle.tl_fetch.specs.Inner.FeedRuns.{FeedsOver};
-ghost use Rattle.tl_fetch.specs.Inner.LogKeys.{AreTold, ToldBy};
+ghost use Rattle.tl_fetch.specs.Inner.LogKeys.{OrEarly, of_log};
 ghost use Rattle.tl_fetch.specs.Trusting.{policy_in};
+ghost use Rattle.tl_key.specs.NoteKey.{verifier_key};
 
 use crate::command::{source_of, with_lack};
+use crate::conditions::Conditions;
 use crate::fault::FetchFault;
 use crate::feed::asking::AsksWitnesses;
 use crate::feed::feeding::feed_under;
 use crate::feed::witnesses::{HttpWitnesses, addresses};
 use crate::freshness::since_of;
-use crate::log_keys::{LogKeys, log_keys};
+use crate::log_keys::{LogKeys, NamedKeys, named_keys};
 use crate::observer::Nobody;
 use crate::options::FetchOptions;
 use crate::policy::Policy;
 use crate::state::NoState;
 use crate::state_file::{FileState, file_refusal};
-use crate::witnesses::witness_key;
 use std::alloc::Global;
 use std::fs::{File, Files};
 use std::io::Write;
 use std::net::{Net, TcpStream};
+use std::snapshot::Snapshot;
 use std::time::{Clock, Duration};
 use tl_client::ResourceSource;
 use tl_device::Counted;
@@ -131,72 +133,68 @@ pub(crate) fn feed_as_asked<
     with_lack(outcome, source.lack())
 }
 
-// Feeds as `feed_as_asked` does, under the policy that the options describe.
-fn feed_as_told<'s, H: Files<File = File> + Net<Stream = TcpStream> + Clock, W: Write, E: Write>(
+// Feeds as `feed_as_asked` does by these keys of the log, which are boxed.
+fn feed_of<'s, 'k, H: Files<File = File> + Net<Stream = TcpStream> + Clock, W: Write, E: Write>(
     rt: &'s H,
     alloc: Global,
-    policy: &Policy<'_>,
-    options: &'s FeedOptions,
+    _own: &Snapshot<LogKeys>,
+    asked: Conditions<'k>,
+    log: &'k [Box<dyn Verifier>],
+    to: &'s [String],
+    options: &'s FetchOptions,
     writer: &mut Counted<W>,
     errors: &'s mut Counted<E>,
 ) -> Result<(), FetchFault>
-    requires told { ToldBy options.now.log policy.now.origin.now
-        (map (λ v. key v) policy.now.log.now) }
-    requires need { policy.now.need ≡ options.now.log.need }
-    requires since { IsSinceOf options.now.log.fresh policy.now.since }
-    requires no_text { policy.now.under ≡ None }
-    ensures { RunsFeed options.now (passage W.contents writer.old writer.new) result }
+    requires { map (λ v. key v) log.now
+        ≡ map verifier_key (keys_of _own.now.value.key _own.now.value.other) }
+    ensures { OrEarly (RunsFeedUnder (of_log _own.now.value.key _own.now.value.other asked.entry)
+        (map string_bytes to.now) options.now (passage W.contents writer.old writer.new))
+        (passage W.contents writer.old writer.new) result }
 {
-    let to = options.to.as_slice();
-    match feed_as_asked(rt, alloc, policy, to, &options.log, writer, errors) {
+    let policy = Policy {
+        origin: asked.origin,
+        log,
+        witnesses: asked.witnesses,
+        need: asked.need,
+        since: asked.since,
+        under: asked.under,
+    };
+    match feed_as_asked(rt, alloc, &policy, to, options, writer, errors) {
         Ok(()) => Ok(()),
         Err(fault) => Err(fault),
     }
 }
 
-// Feeds by the keys of a log, one or two.
-fn feed_by<'s, H: Files<File = File> + Net<Stream = TcpStream> + Clock, W: Write, E: Write>(
+/// Brings the checkpoint of the log of these keys, one or two, before the witnesses at these addresses, under what a
+/// policy says beside them.
+pub(crate) fn feed_by<
+    's,
+    H: Files<File = File> + Net<Stream = TcpStream> + Clock,
+    W: Write,
+    E: Write,
+>(
     rt: &'s H,
     alloc: Global,
     keys: LogKeys,
-    options: &'s FeedOptions,
+    asked: Conditions<'_>,
+    to: &'s [String],
+    options: &'s FetchOptions,
     writer: &mut Counted<W>,
     errors: &'s mut Counted<E>,
 ) -> Result<(), FetchFault>
-    requires { AreTold options.now.log keys.key.name (keys_of keys.key keys.other) }
-    ensures { RunsFeed options.now (passage W.contents writer.old writer.new) result }
+    ensures { OrEarly (RunsFeedUnder (of_log keys.key keys.other asked.entry)
+        (map string_bytes to.now) options.now (passage W.contents writer.old writer.new))
+        (passage W.contents writer.old writer.new) result }
 {
-    let mut witnesses: Vec<Box<dyn Verifier>> = Vec::new(alloc);
-    for place in 0..options.log.witnesses.len() {
-        let key = witness_key(alloc, &options.log, place)?;
-        witnesses.push(Box::new(alloc, key)?)?;
-    }
-    let origin = String::from_str(alloc, keys.key.name())?;
-    let witnesses = witnesses.as_slice();
-    let (origin, need) = (origin.as_str(), options.log.need);
-    let since = since_of(rt, options.log.fresh);
+    let own = Snapshot::of(&keys);
     let first: Box<dyn Verifier> = Box::new(alloc, keys.key)?;
     let Some(other) = keys.other else {
-        let policy = Policy {
-            origin,
-            log: &[first],
-            witnesses,
-            need,
-            since,
-            under: None,
-        };
-        return feed_as_told(rt, alloc, &policy, options, writer, errors);
+        let log = [first];
+        return feed_of(rt, alloc, &own, asked, &log, to, options, writer, errors);
     };
     let second: Box<dyn Verifier> = Box::new(alloc, other)?;
-    let policy = Policy {
-        origin,
-        log: &[first, second],
-        witnesses,
-        need,
-        since,
-        under: None,
-    };
-    feed_as_told(rt, alloc, &policy, options, writer, errors)
+    let log = [first, second];
+    feed_of(rt, alloc, &own, asked, &log, to, options, writer, errors)
 }
 
 /// Runs the command `feed`. It reads the verifier keys of the log, one or two, and of the witnesses (C2SP
@@ -211,6 +209,15 @@ pub fn run_feed<'s, H: Files<File = File> + Net<Stream = TcpStream> + Clock, W: 
 ) -> Result<(), FetchFault>
     ensures { RunsFeed options.now (passage W.contents writer.old writer.new) result }
 {
-    let keys = log_keys(alloc, &options.log)?;
-    feed_by(rt, alloc, keys, options, writer, errors)
+    let NamedKeys { log, witnesses } = named_keys(alloc, &options.log)?;
+    let origin = String::from_str(alloc, log.key.name())?;
+    let asked = Conditions {
+        origin: origin.as_str(),
+        witnesses: witnesses.as_slice(),
+        need: options.log.need,
+        since: since_of(rt, options.log.fresh),
+        under: None,
+    };
+    let to = options.to.as_slice();
+    feed_by(rt, alloc, log, asked, to, &options.log, writer, errors)
 }

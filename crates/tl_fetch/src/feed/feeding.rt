@@ -24,23 +24,24 @@ use std::alloc::{AllocError, Global};
 use std::io::Write;
 use tl_client::{Head, ResourceSource};
 use tl_device::Counted;
+use tl_key::CosignerVerifier;
 use tl_note::Verifier;
 use tl_run::{RunFault, print_text};
 
 // Reports whether two keys are one witness's: they have one name.
-fn are_one(one: &Box<dyn Verifier>, other: &Box<dyn Verifier>) -> bool
-    ensures { IsTrue result ↔ ((key one.now).name ≡ (key other.now).name) }
+fn are_one(one: &CosignerVerifier<Global>, other: &CosignerVerifier<Global>) -> bool
+    ensures { IsTrue result ↔ (one.now.name ≡ other.now.name) }
 {
     one.name() == other.name()
 }
 
 // Returns where the keys of the witness end whose first key is at `start`.
-fn end_of(witnesses: &[Box<dyn Verifier>], start: usize) -> usize
+fn end_of(witnesses: &[CosignerVerifier<Global>], start: usize) -> usize
     requires { start < length witnesses.now }
     ensures more { start < result }
     ensures within { result ≤ length witnesses.now }
-    ensures one { AreOfOne (map (λ w. key w) witnesses.now) start result }
-    ensures other { IsOfAnother (map (λ w. key w) witnesses.now) start result }
+    ensures one { AreOfOne witnesses.now start result }
+    ensures other { IsOfAnother witnesses.now start result }
 {
     for end in start + 1..witnesses.len() {
         if !are_one(&witnesses[start], &witnesses[end]) {

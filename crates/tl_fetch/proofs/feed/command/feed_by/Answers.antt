@@ -1,42 +1,16 @@
-use Rattle.std.proofs.Common.{arith}
-use Rattle.std.proofs.lemmas.Grind.{common_steps}
+use Rattle.std.proofs.Common.{map, string_bytes, subst}
+use Rattle.tl_device.specs.Device.{passage}
+use Rattle.tl_fetch.specs.declared.log_keys.LogKeys.{LogKeys}
+use Rattle.tl_fetch.specs.FeedCommand.{RunsFeedUnder}
+use Rattle.tl_fetch.specs.Inner.LogKeys.{OrEarly, of_log}
 use Rattle.tl_fetch.proofs.feed.command.feed_by.Goals as goal
 
-pub feed_as_told-requires-2-clause-need : goal.feed_as_told-requires-2-clause-need
-feed_as_told-requires-2-clause-need g c = grind (arith, common_steps)
-
-pub feed_as_told-requires-clause-need : goal.feed_as_told-requires-clause-need
-feed_as_told-requires-clause-need g c = grind (arith, common_steps)
-
-pub loop-place-preserved : goal.loop-place-preserved
-loop-place-preserved g c = grind (arith, common_steps)
+pub returns-in_default : goal.returns-in_default
+returns-in_default g c =
+    let o = passage g.W.Write.contents c.args.writer.now c.feed_of.new.writer in
+    subst (λ (k : LogKeys). OrEarly (RunsFeedUnder (of_log k.key k.other c.args.asked) (map string_bytes c.args.to.now) c.args.options.now o) o c.feed_of.result) c.of-own.ensures c.feed_of.ensures
 
 pub returns : goal.returns
-returns g c = grind (arith, common_steps)
-
-pub returns-in_default : goal.returns-in_default
-returns-in_default g c = grind (arith, common_steps)
-
-pub returns-in_err-key : goal.returns-in_err-key
-returns-in_err-key g c = grind (arith, common_steps)
-
-pub returns-in_err-new : goal.returns-in_err-new
-returns-in_err-new g c = grind (arith, common_steps)
-
-pub returns-in_err-new-2 : goal.returns-in_err-new-2
-returns-in_err-new-2 g c = grind (arith, common_steps)
-
-pub returns-in_err-new-3 : goal.returns-in_err-new-3
-returns-in_err-new-3 g c = grind (arith, common_steps)
-
-pub returns-in_err-origin : goal.returns-in_err-origin
-returns-in_err-origin g c = grind (arith, common_steps)
-
-pub returns-in_err-push : goal.returns-in_err-push
-returns-in_err-push g c = grind (arith, common_steps)
-
-pub shared_whole_as_slice-policy : goal.shared_whole_as_slice-policy
-shared_whole_as_slice-policy g c = grind (arith, common_steps)
-
-pub shared_whole_as_slice-policy-2 : goal.shared_whole_as_slice-policy-2
-shared_whole_as_slice-policy-2 g c = grind (arith, common_steps)
+returns g c =
+    let o = passage g.W.Write.contents c.args.writer.now c.feed_of-2.new.writer in
+    subst (λ (k : LogKeys). OrEarly (RunsFeedUnder (of_log k.key k.other c.args.asked) (map string_bytes c.args.to.now) c.args.options.now o) o c.feed_of-2.result) c.of-own.ensures c.feed_of-2.ensures
