@@ -46,6 +46,7 @@ fn serve_options(alloc: Global) -> Result<ServeOptions, AllocError> {
         connections: Some(0),
         threads: Some(2),
         timeout: 10,
+        keep_alive: None,
         clients: 1024,
         quiet: true,
     };

@@ -1,4 +1,5 @@
 pub mod AskedKeys
+pub mod AtOnce
 pub mod Driven
 pub mod Ends
 pub mod InTurn

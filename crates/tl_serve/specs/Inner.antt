@@ -1,5 +1,7 @@
 -- Definitions that only contracts of private functions and proofs need.
 pub
+    mod Answering
+pub
     mod Carrying
 pub
     mod Cosigning

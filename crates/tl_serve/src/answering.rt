@@ -4,7 +4,6 @@ use crate::connection::Context;
 use crate::connections::Connections;
 use crate::host::Host;
 use crate::listener::Listener;
-use crate::resources::Resources;
 use crate::signals::Signals;
 use mio::Poll;
 use std::alloc::Global;
@@ -12,6 +11,7 @@ use std::net::{Net, TcpListener, TcpStream};
 use std::sync::Wait;
 use std::thread::{JoinHandle, Scope, Threads};
 use std::time::Clock;
+use tl_keepalive::Resources;
 use tl_run::RunFault;
 
 /// A thread that answers.

@@ -1,8 +1,6 @@
 //! One connection, which waits without a thread of its own.
 
 use crate::receipt::Receipt;
-use crate::request::Request;
-use crate::resources::Resources;
 use crate::signals::Signals;
 use crate::submission::Submission;
 use mio::Interest;
@@ -11,8 +9,7 @@ use std::alloc::Global;
 use std::io::{ErrorKind, Read, Write};
 use std::net;
 use std::sync::{Arc, Wait};
-use tl_device::Counted;
-use tl_server::{Outcome, ServeFault};
+use tl_keepalive::{Exchanges, Resources, Turn};
 
 // The most bytes of one read.
 const BLOCK: usize = 8192;
@@ -27,24 +24,39 @@ const LAST: u64 = 1000;
 // Most reads that drain leftover input.
 const MOST_DRAINS: u32 = 256;
 
+// The most requests of one connection.
+const MOST_REQUESTS: u32 = 1000;
+
+// What a client is sent that waits before it sends a body (RFC 9110, section 15.2.1).
+const CONTINUE: &[u8; 25] = b"HTTP/1.1 100 Continue\r\n\r\n";
+
 /// A connection.
 #[derive(Drop)]
 pub(crate) struct Connection {
     pub(crate) stream: TcpStream,
-    request: Request,
+    exchanges: Exchanges,
     // The receipt of the entry that it submitted, if it did.
     receipt: Option<Arc<Receipt>>,
-    // The answer, if there is one, and how many of its bytes were written.
-    answer: Option<Vec<u8>>,
+    // Whether there is an answer, how many of its bytes were written, and whether the connection
+    // stays open after it.
+    is_answered: bool,
     written: usize,
-    // When it was accepted, in milliseconds.
-    accepted_at: u64,
+    stays: bool,
+    // How many requests were answered.
+    requests: u32,
+    // When its time began, in milliseconds: when it was accepted, when its last answer was sent, or
+    // when the next request came.
+    began: u64,
     /// Whether it is watched for room to write.
     pub(crate) is_writing: bool,
+    /// Whether it counts among those that wait for their next request.
+    pub(crate) counts_idle: bool,
     // Whether the whole answer was written, and it waits for the client to close.
     is_draining: bool,
     // Whether it is answered even if the index of its entry isn't known.
     is_late: bool,
+    // Whether the client was told to send the body.
+    has_continued: bool,
 }
 
 /// What connections are answered with: the system, memory, and the signals between the threads.
@@ -53,6 +65,24 @@ pub(crate) struct Context<'h, H> {
     pub(crate) rt: &'h H,
     pub(crate) alloc: Global,
     pub(crate) signals: &'h Signals,
+}
+
+/// The time, and how long connections are kept.
+#[derive(Clone, Copy)]
+pub(crate) struct Moment {
+    /// The time, in milliseconds.
+    pub(crate) now: u64,
+    /// Whether connections may stay open after an answer.
+    pub(crate) may_stay: bool,
+}
+
+/// How many milliseconds a connection has.
+#[derive(Clone, Copy)]
+pub(crate) struct Limits {
+    /// For one request.
+    pub(crate) request: u64,
+    /// Until its next request comes.
+    pub(crate) idle: u64,
 }
 
 /// What to do next with a connection.
@@ -71,25 +101,39 @@ impl Connection {
     pub(crate) fn new(alloc: Global, stream: net::TcpStream, accepted_at: u64) -> Connection {
         Connection {
             stream: TcpStream::from_std(stream),
-            request: Request::new(alloc),
+            exchanges: Exchanges::new(alloc),
             receipt: None,
-            answer: None,
+            is_answered: false,
             written: 0,
-            accepted_at,
+            stays: false,
+            requests: 0,
+            began: accepted_at,
             is_writing: false,
+            counts_idle: false,
             is_draining: false,
             is_late: false,
+            has_continued: false,
         }
     }
 
     /// Reports whether there is an answer.
     pub(crate) fn is_answered(&self) -> bool {
-        self.answer.is_some()
+        self.is_answered
     }
 
     /// Reports whether it waits for the index of an entry.
     pub(crate) fn is_waiting(&self) -> bool {
-        self.answer.is_none() && self.receipt.is_some()
+        !self.is_answered && self.receipt.is_some()
+    }
+
+    /// Reports whether it waits for its next request, of which nothing came.
+    pub(crate) fn is_idle(&self) -> bool {
+        self.requests > 0 && !self.is_answered && self.exchanges.is_idle()
+    }
+
+    /// Returns when its time began, in milliseconds.
+    pub(crate) fn began(&self) -> u64 {
+        self.began
     }
 
     /// Reports whether it waits for an entry whose index is below this size.
@@ -101,43 +145,58 @@ impl Connection {
     }
 
     /// Returns when its time is over. Reading the head of a request may take only half of it.
-    pub(crate) fn deadline(&self, limit: u64) -> u64 {
-        let is_reading = self.answer.is_none() && self.receipt.is_none();
-        let time = if is_reading && self.request.is_begun() {
-            limit - limit / 2
+    pub(crate) fn deadline(&self, limits: Limits) -> u64 {
+        let is_reading = !self.is_answered && self.receipt.is_none();
+        let time = if self.is_idle() {
+            limits.idle
+        } else if is_reading && self.exchanges.is_in_head() {
+            limits.request - limits.request / 2
         } else {
-            limit
+            limits.request
         };
-        self.accepted_at.saturating_add(time)
+        self.began.saturating_add(time)
     }
 
     /// Returns when something is to be done with it even if nothing comes: its time is over, or its
     /// entry isn't published in time. In the latter case a second is left for the answer, or half
     /// of the time if that is less.
-    pub(crate) fn due(&self, limit: u64) -> u64 {
+    pub(crate) fn due(&self, limits: Limits) -> u64 {
         if self.is_waiting() {
-            let time = limit.saturating_sub(LAST.min(limit / 2));
-            return self.accepted_at.saturating_add(time);
+            let limit = limits.request;
+            return self
+                .began
+                .saturating_add(limit.saturating_sub(LAST.min(limit / 2)));
         }
-        self.deadline(limit)
+        self.deadline(limits)
+    }
+
+    // Takes what came. The time of a next request begins with its first byte.
+    fn feed(&mut self, bytes: &[u8], moment: Moment) -> Next {
+        if self.is_idle() {
+            self.began = moment.now;
+        }
+        match self.exchanges.feed(bytes) {
+            Ok(()) => Next::Continue,
+            Err(_) => Next::Close,
+        }
     }
 
     // Reads what came, until there is enough to try an answer.
-    fn read_more(&mut self) -> Next {
+    fn read_more(&mut self, moment: Moment) -> Next {
         let mut buf = [0u8; BLOCK];
         for _ in 0..u64::MAX {
-            let room = self.request.room().min(BLOCK);
+            if self.exchanges.is_enough() {
+                return Next::Continue;
+            }
+            let room = self.exchanges.room().min(BLOCK);
             match self.stream.read(&mut buf[..room]) {
                 Ok(0) => {
-                    self.request.end();
+                    self.exchanges.close();
                     return Next::Continue;
                 }
                 Ok(count) => {
-                    if self.request.feed(&buf[..count]).is_err() {
+                    if self.feed(&buf[..count], moment) == Next::Close {
                         return Next::Close;
-                    }
-                    if self.request.is_enough() {
-                        return Next::Continue;
                     }
                 }
                 Err(error) if error.kind() == ErrorKind::WouldBlock => return Next::Wait,
@@ -162,53 +221,44 @@ impl Connection {
         &mut self,
         context: &Context<'_, H>,
         resources: &mut P,
+        moment: Moment,
     ) -> Next {
-        let mut reader = Counted::new(self.request.reader());
-        let mut writer = Counted::new(Vec::new(context.alloc));
         let mut submission = Submission {
             rt: context.rt,
             signals: context.signals,
             receipt: self.receipt.take(),
             is_late: self.is_late,
         };
-        let outcome = resources.answer(context.alloc, &mut reader, &mut writer, &mut submission);
-        let asked = reader.into_inner().asked();
+        let may_stay = moment.may_stay && self.requests < MOST_REQUESTS - 1;
+        let turn = self
+            .exchanges
+            .answer(context.alloc, resources, &mut submission, may_stay);
         self.receipt = submission.receipt;
-        match outcome {
-            Ok(Outcome::Answered(_)) => {
-                self.answer = Some(writer.into_inner());
+        match turn {
+            Turn::Answered(stays) => {
+                (self.is_answered, self.stays) = (true, stays);
                 Next::Continue
             }
-            Ok(Outcome::Misplaced) => {
+            Turn::Misplaced => {
                 self.report_damage(context);
-                self.answer = Some(writer.into_inner());
+                (self.is_answered, self.stays) = (true, false);
                 Next::Continue
             }
-            Ok(Outcome::Later) => Next::Wait,
-            Err(ServeFault::Read) if !self.request.has_ended() => {
-                self.request.want(asked);
-                Next::Wait
-            }
-            _ => Next::Close,
+            Turn::Later => Next::Wait,
+            Turn::More => self.ask_for_body(moment),
+            Turn::Nothing | Turn::Unsent | Turn::Failed => Next::Close,
         }
     }
 
-    // Reads, unless it waits for the index of an entry, and tries to answer. Returns what to do
-    // next.
-    fn read_and_try<H: Wait, P: Resources>(
-        &mut self,
-        context: &Context<'_, H>,
-        resources: &mut P,
-    ) -> Next {
-        if self.receipt.is_none() {
-            let next = self.read_more();
-            if next != Next::Continue {
-                return next;
-            }
+    // Asks the client for the body of its request, if it waits for that.
+    fn ask_for_body(&mut self, moment: Moment) -> Next {
+        if !moment.may_stay || self.has_continued || !self.exchanges.waits_for_continue() {
+            return Next::Continue;
         }
-        match self.try_answer(context, resources) {
-            Next::Wait if self.receipt.is_none() => Next::Continue,
-            next => next,
+        self.has_continued = true;
+        match self.stream.write(CONTINUE) {
+            Ok(count) if count == CONTINUE.len() => Next::Continue,
+            _ => Next::Close,
         }
     }
 
@@ -217,12 +267,19 @@ impl Connection {
         &mut self,
         context: &Context<'_, H>,
         resources: &mut P,
+        moment: Moment,
     ) -> Next {
         for _ in 0..u64::MAX {
-            if self.answer.is_some() {
+            if self.is_answered {
                 return Next::Continue;
             }
-            let next = self.read_and_try(context, resources);
+            if self.receipt.is_none() {
+                let next = self.read_more(moment);
+                if next != Next::Continue {
+                    return next;
+                }
+            }
+            let next = self.try_answer(context, resources, moment);
             if next != Next::Continue {
                 return next;
             }
@@ -232,16 +289,10 @@ impl Connection {
 
     // Writes what is left of the answer, with one call.
     fn write_some(&mut self) -> Next {
-        let Some(answer) = &self.answer else {
-            return Next::Close;
-        };
-        let left = answer.get(self.written..).unwrap_or(&[]);
-        if left.is_empty() {
-            return self.shut_write();
-        }
-        match self.stream.write(left) {
+        match self.stream.write(self.exchanges.unsent()) {
             Ok(0) => Next::Close,
             Ok(count) => {
+                self.exchanges.send(count);
                 self.written = self.written.saturating_add(count);
                 Next::Continue
             }
@@ -250,10 +301,12 @@ impl Connection {
         }
     }
 
-    // Ends a short answer at once. After a long one only the write side is shut, and we wait for
-    // the client to close: closing with unread input makes the kernel drop data in flight.
+    // Ends a short answer to one request at once. After a long one, or several, only the write side
+    // is shut, and we wait for the client to close: closing with unread input makes the kernel drop
+    // data in flight.
     fn shut_write(&mut self) -> Next {
-        if self.written <= SHORT || self.stream.shutdown(net::Shutdown::Write).is_err() {
+        let is_short = self.written <= SHORT && self.requests == 0;
+        if is_short || self.stream.shutdown(net::Shutdown::Write).is_err() {
             return Next::Close;
         }
         self.is_draining = true;
@@ -274,21 +327,51 @@ impl Connection {
         Next::Close
     }
 
+    // Begins with the next request, once the answer before it was sent.
+    fn renew(&mut self, moment: Moment) {
+        self.receipt = None;
+        (self.is_answered, self.stays, self.written) = (false, false, 0);
+        (self.is_late, self.has_continued) = (false, false);
+        self.requests = self.requests.saturating_add(1);
+        self.began = moment.now;
+    }
+
+    // Sends the answer, and goes on with the next request or waits for the client to close.
+    fn finish(&mut self, moment: Moment) -> Next {
+        for _ in 0..u64::MAX {
+            if self.is_draining {
+                return self.drain();
+            }
+            let is_sent = self.exchanges.unsent().is_empty();
+            if is_sent && self.stays {
+                self.renew(moment);
+                return Next::Continue;
+            }
+            let next = if is_sent {
+                self.shut_write()
+            } else {
+                self.write_some()
+            };
+            if next != Next::Continue {
+                return next;
+            }
+        }
+        Next::Close
+    }
+
     /// Goes on as far as it can now, and returns what to do next.
     pub(crate) fn advance<H: Wait, P: Resources>(
         &mut self,
         context: &Context<'_, H>,
         resources: &mut P,
+        moment: Moment,
     ) -> Next {
-        let next = self.prepare(context, resources);
-        if next != Next::Continue {
-            return next;
-        }
         for _ in 0..u64::MAX {
-            if self.is_draining {
-                return self.drain();
+            let next = self.prepare(context, resources, moment);
+            if next != Next::Continue {
+                return next;
             }
-            let next = self.write_some();
+            let next = self.finish(moment);
             if next != Next::Continue {
                 return next;
             }
@@ -301,14 +384,15 @@ impl Connection {
         &mut self,
         context: &Context<'_, H>,
         resources: &mut P,
+        moment: Moment,
     ) -> Next {
         self.is_late = true;
-        self.advance(context, resources)
+        self.advance(context, resources, moment)
     }
 
     /// Reports whether it waits for room to write, and not for input.
     pub(crate) fn wants_to_write(&self) -> bool {
-        self.answer.is_some() && !self.is_draining
+        self.is_answered && !self.is_draining
     }
 
     /// Returns what it is to be watched for.

@@ -1,8 +1,7 @@
 //! The connections that a thread holds. They wait without threads of their own.
 
-use crate::connection::{Connection, Context, Next};
+use crate::connection::{Connection, Context, Moment, Next};
 use crate::listener::{ACCEPT, Accepted, Listener};
-use crate::resources::Resources;
 use crate::signals::Signals;
 use mio::{Events, Poll, Token};
 use slab::Slab;
@@ -11,6 +10,7 @@ use std::net;
 use std::net::Net;
 use std::sync::Wait;
 use std::time::{Clock, Duration, Instant};
+use tl_keepalive::Resources;
 use tl_run::RunFault;
 
 // The most events that one poll returns.
@@ -91,6 +91,14 @@ impl<'d, H> Connections<'d, H> {
         Some(Duration::from_millis(due.saturating_sub(self.now)))
     }
 
+    // Returns the time, and whether connections may stay open after an answer.
+    fn moment(&self) -> Moment {
+        Moment {
+            now: self.now,
+            may_stay: self.listener.keeps_alive() && !self.listener.is_closed(),
+        }
+    }
+
     // Registers what the connection waits for, and reports whether it is watched.
     fn watch(&mut self, key: usize) -> bool {
         let Some(connection) = self.connections.get_mut(key) else {
@@ -120,7 +128,11 @@ impl<'d, H> Connections<'d, H> {
         let mut connection = connection;
         let (key, interest) = (self.connections.vacant_key(), connection.interest());
         connection.is_writing = connection.wants_to_write();
-        let due = connection.due(self.listener.limit());
+        connection.counts_idle = connection.is_idle();
+        let (due, counts_idle) = (
+            connection.due(self.listener.limits()),
+            connection.counts_idle,
+        );
         let is_watched = self
             .poll
             .registry()
@@ -128,8 +140,66 @@ impl<'d, H> Connections<'d, H> {
         if is_watched.is_err() || self.connections.insert(connection).is_err() {
             return false;
         }
+        if counts_idle {
+            self.listener.begin_idle();
+        }
         self.due = self.due.min(due);
         true
+    }
+
+    // Counts a connection among those that wait for their next request, if it does.
+    fn count_idle(&mut self, key: usize) {
+        let Some(connection) = self.connections.get_mut(key) else {
+            return;
+        };
+        let is_idle = connection.is_idle();
+        if is_idle && !connection.counts_idle {
+            self.listener.begin_idle();
+        }
+        if !is_idle && connection.counts_idle {
+            self.listener.end_idle();
+        }
+        connection.counts_idle = is_idle;
+    }
+
+    // Closes a connection.
+    fn close(&mut self, key: usize) {
+        if let Some(connection) = self.connections.try_remove(key) {
+            if connection.counts_idle {
+                self.listener.end_idle();
+            }
+        }
+        self.listener.release(1);
+    }
+
+    // Returns the connection that has waited longest for its next request.
+    fn longest_idle(&self) -> Option<usize> {
+        let mut longest: Option<usize> = None;
+        let mut began = u64::MAX;
+        for (key, connection) in self.connections.iter() {
+            if connection.counts_idle && connection.began() < began {
+                longest = Some(key);
+                began = connection.began();
+            }
+        }
+        longest
+    }
+
+    // Closes those that have waited longest for their next request, as long as room is wanted for
+    // new ones.
+    fn make_room(&mut self) {
+        for _ in 0..u64::MAX {
+            if !self.listener.wants_room() {
+                return;
+            }
+            let Some(key) = self.longest_idle() else {
+                return;
+            };
+            if !self.listener.takes_room() {
+                return;
+            }
+            self.close(key);
+        }
     }
 
     // Closes those whose time is over and, once the listener is closed, those that have no answer
@@ -142,13 +212,19 @@ impl<'d, H> Connections<'d, H> {
         if self.now < self.due && !is_closed {
             return;
         }
-        let (now, end, limit) = (self.now, self.end, self.listener.limit());
-        let before = self.connections.len();
-        self.connections.retain(|_, connection| {
-            now < connection.deadline(limit).min(end) && (connection.is_answered() || !is_closed)
-        });
-        let gone = before.saturating_sub(self.connections.len());
-        self.listener.release(gone as u64);
+        let (now, end, limits) = (self.now, self.end, self.listener.limits());
+        for key in 0..self.connections.capacity() {
+            let is_over = match self.connections.get(key) {
+                Some(connection) => {
+                    now >= connection.deadline(limits).min(end)
+                        || (is_closed && !connection.is_answered())
+                }
+                None => false,
+            };
+            if is_over {
+                self.close(key);
+            }
+        }
         self.due = self.next_due();
     }
 
@@ -156,7 +232,7 @@ impl<'d, H> Connections<'d, H> {
     fn next_due(&self) -> u64 {
         let mut due = u64::MAX;
         for (_, connection) in self.connections.iter() {
-            due = due.min(connection.due(self.listener.limit()));
+            due = due.min(connection.due(self.listener.limits()));
         }
         due
     }
@@ -166,17 +242,20 @@ impl<'d, H: Clock + Net + Wait> Connections<'d, H> {
     // Keeps a connection waiting, or closes it, by what is next.
     fn settle(&mut self, key: usize, next: Next) {
         if next == Next::Close || !self.watch(key) {
-            let _ = self.connections.try_remove(key);
-            self.listener.release(1);
-        } else if let Some(connection) = self.connections.get(key) {
-            self.due = self.due.min(connection.due(self.listener.limit()));
+            self.close(key);
+            return;
+        }
+        self.count_idle(key);
+        if let Some(connection) = self.connections.get(key) {
+            self.due = self.due.min(connection.due(self.listener.limits()));
         }
     }
 
     // Goes on with a connection.
     fn advance<P: Resources>(&mut self, key: usize, resources: &mut P) {
+        let moment = self.moment();
         let next = match self.connections.get_mut(key) {
-            Some(connection) => connection.advance(&self.context, resources),
+            Some(connection) => connection.advance(&self.context, resources, moment),
             None => return,
         };
         self.settle(key, next);
@@ -184,12 +263,13 @@ impl<'d, H: Clock + Net + Wait> Connections<'d, H> {
 
     // Answers a connection that its entry isn't published, if it waits no longer.
     fn give_up<P: Resources>(&mut self, key: usize, resources: &mut P) {
-        let (now, limit, is_closed) = (self.now, self.listener.limit(), self.listener.is_closed());
+        let (moment, limits) = (self.moment(), self.listener.limits());
+        let is_closed = self.listener.is_closed();
         let Some(connection) = self.connections.get_mut(key) else {
             return;
         };
-        if connection.is_waiting() && (is_closed || now >= connection.due(limit)) {
-            let next = connection.give_up(&self.context, resources);
+        if connection.is_waiting() && (is_closed || moment.now >= connection.due(limits)) {
+            let next = connection.give_up(&self.context, resources, moment);
             self.settle(key, next);
         }
     }
@@ -239,19 +319,26 @@ impl<'d, H: Clock + Net + Wait> Connections<'d, H> {
         if !self.listener.acquire() {
             return;
         }
-        let is_kept = match stream.set_nonblocking(true) {
-            Ok(()) => self.begin(stream, resources),
-            Err(_) => false,
-        };
+        let is_kept = self.is_ready(&stream) && self.begin(stream, resources);
         if !is_kept {
             self.listener.release(1);
         }
     }
 
+    // Prepares a new connection, and reports whether it can be used. Answers over one that stays
+    // open are sent without delay.
+    fn is_ready(&self, stream: &net::TcpStream) -> bool {
+        if self.listener.keeps_alive() && stream.set_nodelay(true).is_err() {
+            return false;
+        }
+        stream.set_nonblocking(true).is_ok()
+    }
+
     // Begins with a connection, and reports whether it is held.
     fn begin<P: Resources>(&mut self, stream: net::TcpStream, resources: &mut P) -> bool {
         let mut connection = Connection::new(self.context.alloc, stream, self.now);
-        connection.advance(&self.context, resources) == Next::Wait && self.keep(connection)
+        let moment = self.moment();
+        connection.advance(&self.context, resources, moment) == Next::Wait && self.keep(connection)
     }
 
     // Accepts all pending connections. Fails with `Accept` if accepting fails for good.
@@ -288,6 +375,7 @@ impl<'d, H: Clock + Net + Wait> Connections<'d, H> {
         let mut events = Events::with_capacity(self.context.alloc, MOST_EVENTS)?;
         for _ in 0..u64::MAX {
             self.accept_all(&mut resources)?;
+            self.make_room();
             if self.listener.is_over() && self.connections.is_empty() {
                 break;
             }

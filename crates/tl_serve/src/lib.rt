@@ -43,7 +43,6 @@ mod queue;
 mod queued;
 mod receipt;
 mod remembered;
-mod request;
 mod resources;
 mod running;
 mod saver;

@@ -1,6 +1,7 @@
 //! The listener of a server, which accepts connections for its threads.
 
 use crate::bound_listener::BoundListener;
+use crate::connection::Limits;
 use crate::options::ListenOptions;
 use mio::unix::SourceFd;
 use mio::{Interest, Poll, Token, Waker};
@@ -33,8 +34,13 @@ pub(crate) struct Listener {
     left: AtomicU64,
     held: AtomicU64,
     clients: u64,
-    // How many milliseconds a connection may take in all.
-    limit: u64,
+    // How many of those that are held wait for their next request, and how many of these are to be
+    // closed for new ones.
+    idle: AtomicU64,
+    wanted: AtomicU64,
+    // How many milliseconds a connection has, and whether it may wait for another request.
+    limits: Limits,
+    keeps_alive: bool,
     // What each answering thread waits with, until the thread takes it, and what wakes each.
     polls: Mutex<Vec<Poll>>,
     wakers: Vec<Waker>,
@@ -121,7 +127,13 @@ impl Listener {
             left: AtomicU64::new(options.connections.unwrap_or(u64::MAX)),
             held: AtomicU64::new(0),
             clients: options.clients,
-            limit: options.timeout.saturating_mul(1000),
+            idle: AtomicU64::new(0),
+            wanted: AtomicU64::new(0),
+            limits: Limits {
+                request: options.timeout.saturating_mul(1000),
+                idle: options.keep_alive.unwrap_or(0).saturating_mul(1000),
+            },
+            keeps_alive: options.keep_alive.is_some(),
             polls: Mutex::new(polls),
             wakers,
             is_closed: AtomicBool::new(false),
@@ -133,9 +145,14 @@ impl Listener {
         self.polls.lock(rt).pop()
     }
 
-    /// Returns how many milliseconds a connection may take in all.
-    pub(crate) fn limit(&self) -> u64 {
-        self.limit
+    /// Returns how many milliseconds a connection has.
+    pub(crate) fn limits(&self) -> Limits {
+        self.limits
+    }
+
+    /// Reports whether a connection may stay open after an answer.
+    pub(crate) fn keeps_alive(&self) -> bool {
+        self.keeps_alive
     }
 
     /// Wakes all threads that watch the listener.
@@ -212,17 +229,65 @@ impl Listener {
         }
     }
 
-    /// Reports whether one more connection may be held. If so, it counts until it is released.
+    /// Reports whether one more connection may be held. If so, it counts until it is released. If as
+    /// many are held as may be, one that waits for its next request is closed for it.
     pub(crate) fn acquire(&self) -> bool {
-        let may_be = self.held.fetch_add(1, Ordering::SeqCst) < self.clients;
+        let may_be = self.held.fetch_add(1, Ordering::SeqCst) < self.clients
+            || self.asks_for_room();
         if !may_be {
             self.held.fetch_sub(1, Ordering::SeqCst);
         }
         may_be
     }
 
+    // Asks the threads to close a connection that waits for its next request, and reports whether
+    // there is one that isn't asked for already.
+    fn asks_for_room(&self) -> bool {
+        if self.wanted.fetch_add(1, Ordering::SeqCst) < self.idle.load(Ordering::SeqCst) {
+            self.wake_all();
+            return true;
+        }
+        self.wanted.fetch_sub(1, Ordering::SeqCst);
+        false
+    }
+
+    /// Reports whether a connection that waits for its next request is to be closed for a new one.
+    pub(crate) fn wants_room(&self) -> bool {
+        self.wanted.load(Ordering::SeqCst) > 0 && self.held.load(Ordering::SeqCst) > self.clients
+    }
+
+    /// Reports whether it is up to this thread to close one.
+    pub(crate) fn takes_room(&self) -> bool {
+        for _ in 0..u64::MAX {
+            let wanted = self.wanted.load(Ordering::SeqCst);
+            if wanted == 0 {
+                return false;
+            }
+            let taken = self
+                .wanted
+                .compare_exchange(wanted, wanted - 1, Ordering::SeqCst, Ordering::SeqCst);
+            if taken.is_ok() {
+                return true;
+            }
+        }
+        false
+    }
+
+    /// Counts a connection that begins to wait for its next request.
+    pub(crate) fn begin_idle(&self) {
+        self.idle.fetch_add(1, Ordering::SeqCst);
+    }
+
+    /// Counts a connection that waits for it no longer.
+    pub(crate) fn end_idle(&self) {
+        self.idle.fetch_sub(1, Ordering::SeqCst);
+    }
+
     /// Releases this many connections, which are held no longer.
     pub(crate) fn release(&self, count: u64) {
-        self.held.fetch_sub(count, Ordering::SeqCst);
+        let held = self.held.fetch_sub(count, Ordering::SeqCst);
+        if held.saturating_sub(count) <= self.clients {
+            self.wanted.store(0, Ordering::SeqCst);
+        }
     }
 }

@@ -42,6 +42,9 @@ pub struct ListenOptions {
     /// How many seconds one connection may take in all, at least 1. Half of them are for the head
     /// of its request.
     pub timeout: u64,
+    /// How many seconds a connection may wait for its next request, at least 1. Without it, a connection
+    /// is closed after one answer.
+    pub keep_alive: Option<u64>,
     /// How many connections are held at once at most, at least 1.
     pub clients: u64,
     /// Whether only the address is reported.

@@ -14,7 +14,6 @@ use crate::listener::Listener;
 use crate::live_log::LiveLog;
 use crate::options::ServeOptions;
 use crate::remembered::Remembered;
-use crate::resources::Resources;
 use crate::running::{Rounds, Running};
 use crate::serve::threads_of;
 use crate::serving::{Common, Ran, run_log};
@@ -28,6 +27,7 @@ use std::net::{Net, TcpListener, TcpStream};
 use std::os::fd::RawFd;
 use std::sync::Arc;
 use tl_device::Counted;
+use tl_keepalive::Resources;
 use tl_lines::Lines;
 use tl_run::RunFault;
 

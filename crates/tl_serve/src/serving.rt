@@ -13,7 +13,6 @@ use crate::lanes::{AllSent, LaneThread, Sending, join_lanes, start_lanes};
 use crate::listener::Listener;
 use crate::live_log::LiveLog;
 use crate::queued::Queued;
-use crate::resources::Resources;
 use crate::running::{Feed, Running};
 use crate::signal_feed::SignalFeed;
 use crate::signals::Signals;
@@ -24,6 +23,7 @@ use std::net::{Net, TcpListener, TcpStream};
 use std::thread;
 use std::thread::Scope;
 use tl_device::Counted;
+use tl_keepalive::Resources;
 use tl_loop::{Event, PublishLoop, Step};
 use tl_run::RunFault;
 

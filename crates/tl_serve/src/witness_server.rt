@@ -6,7 +6,7 @@ use crate::host::Host;
 use crate::listener::Listener;
 use crate::options::WitnessOptions;
 use crate::queue::LineQueue;
-use crate::resources::{Resources, outcome_of};
+use crate::resources::outcome_of;
 use crate::saver::LineSaver;
 use crate::serve::threads_of;
 use crate::signals::Signals;
@@ -19,6 +19,7 @@ use std::thread;
 use std::thread::Scope;
 use std::time::{Clock, SystemTime, UNIX_EPOCH};
 use tl_device::Counted;
+use tl_keepalive::Resources;
 use tl_loop::Event;
 use tl_run::RunFault;
 use tl_server::{Outcome, ServeFault, Submits, Witness, serve_witness};
@@ -50,6 +51,12 @@ fn seconds<H: Clock>(rt: &H, given: Option<u64>) -> u64 {
 
 impl<H: Clock + Wait, W: Witness<Global>, O: Write> Resources
     for WitnessResources<'_, '_, H, W, O> {
+    ghost use Rattle.tl_serve.specs.Inner.Answering.{witness_courses};
+
+    ghost courses = { λ a b _ _. witness_courses W.digest (W.shown a.witness.now) };
+
+    ghost idle = { λ _ _ _. Unit {0} };
+
     fn answer<I: Read, Z: Write, T: Submits>(
         &mut self,
         alloc: Global,
@@ -63,7 +70,7 @@ impl<H: Clock + Wait, W: Witness<Global>, O: Write> Resources
         if saver.has_failed() {
             self.signals.report_fault(rt, RunFault::Write);
         }
-        Ok(outcome_of(outcome?))
+        outcome_of(outcome)
     }
 }
 

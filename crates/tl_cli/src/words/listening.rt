@@ -19,6 +19,8 @@ pub(super) const SERVER: Group = Group {
             => "End after so many connections (default: never)";
         "threads" "N" Kind::Number(1, 63) => "Threads that answer (default: all processors)";
         "timeout" "N" Kind::Number(1, 86_400) => "Seconds that a connection has (default: 10)";
+        "keep-alive" "N" Kind::Number(1, 86_400)
+            => "Seconds to wait for another request (default: none)";
         "clients" "N" Kind::Number(1, 1_000_000)
             => "Connections that are held at once (default: 1024)";
         "quiet" "" Kind::Flag => "Report the address and lost lines alone";
@@ -35,6 +37,7 @@ pub(super) fn listen_options(
         connections: options.get_one::<u64>("connections"),
         threads: options.get_one::<u64>("threads"),
         timeout: options.get_one::<u64>("timeout").unwrap_or(TIMEOUT),
+        keep_alive: options.get_one::<u64>("keep-alive"),
         clients: options.get_one::<u64>("clients").unwrap_or(CLIENTS),
         quiet: options.get_flag("quiet"),
     })

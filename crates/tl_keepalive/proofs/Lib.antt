@@ -1,0 +1,5 @@
+pub mod Conversations
+pub mod Heads
+pub mod Stayings
+pub mod Texts
+pub mod Turning

@@ -1,0 +1,5 @@
+pub mod KeepAlive
+pub mod Conversation
+pub mod Exchanges
+pub mod Plain
+pub mod Inner
