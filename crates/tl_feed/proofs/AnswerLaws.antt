@@ -4,10 +4,13 @@ use Rattle.std.proofs.lemmas.Fmt.{decimal_injective}
 use Rattle.tl_text.specs.Text.{line, number_text}
 use Rattle.tl_text.proofs.Lines.{one_line}
 use Rattle.tl_text.proofs.PlainText.{number_plain}
-use Rattle.tl_http.specs.Post.{Replied, Replies}
+use Rattle.tl_http.specs.Exchange.{Answers}
+use Rattle.tl_http.specs.Persistence.{body_framing}
+use Rattle.tl_http.specs.Post.{Replied, Replies, ReplyDecides}
 use Rattle.tl_http.proofs.ResponseLaws.{one_reply}
 use Rattle.tl_feed.specs.Answer.{At, AnswerDecides, Answered, IsSizeLine, LinesDecide, SizeDecides}
-use Rattle.tl_feed.specs.Asking.{most_answer}
+use Rattle.tl_feed.specs.Asking.{most_answer, wanted}
+use Rattle.tl_feed.proofs.AskLemmas.{two_statuses}
 use Rattle.tl_feed.specs.declared.fault.AskFault.TheVariants.{OutOfMemory}
 
 -- two results are equal, or one is that an allocation failed
@@ -51,12 +54,27 @@ one_decided (Ok given) r q (inl a) (inr b) = let first = a.0 in let second = b.0
 one_decided (Ok given) r q (inr a) (inl b) = let first = a.0 in let second = b.0 in absurd (omega (arith, first, second))
 one_decided (Ok given) r q (inr a) (inr b) = one_size given.field given.body r q a.1 b.1
 
+-- what the responses that are wanted are framed by is what their fields say
+framed_so : (input : List ℕ) (x : Replied) → Answers wanted input x → Replies (200 ∷ 409 ∷ []) (codes "Content-Type") most_answer input x
+framed_so input x (inl none) = inl none
+framed_so input x (inr (b, begins, inl version)) = inr (b, begins, inl version)
+framed_so input x (inr (b, begins, inr (version, inl status))) = inr (b, begins, inr (version, inl status))
+framed_so input x (inr (b, begins, inr (version, inr (status, inl encoded)))) = inr (b, begins, inr (version, inr (status, inl encoded)))
+framed_so input x (inr (b, begins, inr (version, inr (status, inr (plain, inl length))))) =
+    inr (b, begins, inr (version, inr (status, inr (plain, inl length))))
+framed_so input x (inr (b, begins, inr (version, inr (status, inr (plain, inr (framing, framed, decides)))))) =
+    let as_framed : ReplyDecides (codes "Content-Type") most_answer b framing x =
+    elim (two_statuses _ status) as (λ _. ReplyDecides (codes "Content-Type") most_answer b framing x) [
+      | inl is ↦ subst (λ (n : ℕ). ReplyDecides (codes "Content-Type") most_answer b (body_framing n framing) x) is decides
+      | inr is ↦ subst (λ (n : ℕ). ReplyDecides (codes "Content-Type") most_answer b (body_framing n framing) x) is decides
+    ] in
+    inr (b, begins, inr (version, inr (status, inr (plain, inr (framing, framed, as_framed)))))
+
 -- an input has one answer, unless an allocation fails
 pub one_answer : (input : List ℕ) (x y : Replied) (r q : Answered)
-    → Replies (200 ∷ 409 ∷ []) (codes "Content-Type") most_answer input x → AnswerDecides x r
-    → Replies (200 ∷ 409 ∷ []) (codes "Content-Type") most_answer input y → AnswerDecides y q → IsOneAnswer r q
+    → Answers wanted input x → AnswerDecides x r → Answers wanted input y → AnswerDecides y q → IsOneAnswer r q
 one_answer input x y r q first a second b =
-    elim (one_reply (200 ∷ 409 ∷ []) (codes "Content-Type") most_answer input x y first second) as (λ _. IsOneAnswer r q) [
+    elim (one_reply (200 ∷ 409 ∷ []) (codes "Content-Type") most_answer input x y (framed_so input x first) (framed_so input y second)) as (λ _. IsOneAnswer r q) [
       | inl same ↦ one_decided y r q (subst (λ (z : Replied). AnswerDecides z r) same a) b
       | inr (inl none) ↦ inr (inl (subst (λ (z : Replied). AnswerDecides z r) none a))
       | inr (inr none) ↦ inr (inr (subst (λ (z : Replied). AnswerDecides z q) none b))

@@ -1,29 +1,28 @@
 -- From the steps of asking a witness to the whole.
-use Rattle.std.proofs.Common.{◌≡◌, ◌⊎◌, ℕ, zero, suc, List, [], ◌∷◌, Contains, Ok, arith, codes, inl, inr, subst, sym}
-use Rattle.tl_device.specs.Device.{Passage}
-use Rattle.tl_http.specs.Post.{Asked, Given, Posts, Replied}
-use Rattle.tl_http.proofs.Wanted.{posts_wanted}
+use Rattle.std.proofs.Common.{◌≡◌, ◌⊎◌, ℕ, zero, suc, List, [], ◌∷◌, Contains, Ok, arith, inl, inr, subst, sym}
+use Rattle.tl_http.specs.Post.{Given, Replied}
+use Rattle.tl_source.specs.Calling.{MayExchange}
+use Rattle.tl_source.proofs.Responses.{exchange_wanted}
 use Rattle.tl_witness.specs.Request.{Body, body_text}
 use Rattle.tl_feed.specs.Answer.{AnswerDecides, Answered}
-use Rattle.tl_feed.specs.Asking.{Asks, most_answer}
+use Rattle.tl_feed.specs.Asking.{MayAnswer, post_of, wanted}
 
--- a request with this body
-abbrev pub request_with : List ℕ → List ℕ → List ℕ → Asked
-request_with host target bytes = record { host = host; target = target; body = bytes; statuses = 200 ∷ 409 ∷ []; field = codes "Content-Type" }
-
--- the result of a request with the body of a question
-pub asks_so : (host target bytes : List ℕ) (question : Body) (i o : Passage) (reply : Replied) (r : Answered) → bytes ≡ body_text question
-    → Posts (request_with host target bytes) most_answer i o reply → AnswerDecides reply r → Asks host target question i o r
-asks_so host target bytes question i o reply r same posts decides =
-    inr (reply, subst (λ (b : List ℕ). Posts (request_with host target b) most_answer i o reply) same posts, decides)
+-- the answer to a request with the body of a question
+pub answers_so : (host target bytes : List ℕ) (question : Body) (reply : Replied) (r : Answered) → bytes ≡ body_text question
+    → MayExchange (post_of host target bytes) wanted reply → AnswerDecides reply r → MayAnswer host target question r
+answers_so host target bytes question reply r same exchange decides = record {
+  reply = reply;
+  exchange = subst (λ (b : List ℕ). MayExchange (post_of host target b) wanted reply) same exchange;
+  decides = decides;
+}
 
 -- the statuses of responses that are accepted
-two_statuses : (s : ℕ) → Contains (200 ∷ 409 ∷ []) s → (s ≡ 200) ⊎ (s ≡ 409)
+pub two_statuses : (s : ℕ) → Contains (200 ∷ 409 ∷ []) s → (s ≡ 200) ⊎ (s ≡ 409)
 two_statuses s (zero, within, is) = inl (sym is)
 two_statuses s (suc zero, within, is) = inr (sym is)
 two_statuses s (suc (suc k), within, is) = absurd (omega (arith, within))
 
-pub taken_status : (host target bytes : List ℕ) (i o : Passage) (given : Given) → Posts (request_with host target bytes) most_answer i o (Ok given)
+pub taken_status : (host target bytes : List ℕ) (given : Given) → MayExchange (post_of host target bytes) wanted (Ok given)
     → (given.status ≡ 200) ⊎ (given.status ≡ 409)
-taken_status host target bytes i o given posts =
-    two_statuses given.status (posts_wanted (request_with host target bytes) most_answer i o given posts)
+taken_status host target bytes given exchange =
+    two_statuses given.status (exchange_wanted (post_of host target bytes) wanted exchange.reader exchange.writer given exchange.exchanges)

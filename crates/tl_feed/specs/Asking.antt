@@ -1,30 +1,56 @@
--- One request to a witness over a reader and a writer.
-use Rattle.std.specs.Prelude.{◌≡◌, ◌⊎◌, ℕ, [], ◌∷◌, Err, codes}
-use Rattle.tl_device.specs.Device.{Passage, IsUnread, IsUnwritten}
+-- One request to a witness over HTTP.
+use Rattle.std.specs.Prelude.{◌≡◌, ◌⊎◌, ℕ, [], ◌∷◌, ◌++◌, Result, Ok, Err, codes}
 use Rattle.tl_hash.specs.Bytes.{Bytes}
-use Rattle.tl_http.specs.Post.{Asked, Posts, Replied}
+use Rattle.tl_http.specs.Exchange.{Sought}
+use Rattle.tl_http.specs.Message.{Sent}
+use Rattle.tl_http.specs.Post.{Replied}
+use Rattle.tl_source.specs.Asking.{IsFront}
+use Rattle.tl_source.specs.Calling.{MayExchange}
+use Rattle.tl_source.specs.declared.url.Url.{Url}
 use Rattle.tl_witness.specs.Request.{Body, body_text}
-use Rattle.tl_feed.specs.Answer.{AnswerDecides, Answered}
+use Rattle.tl_feed.specs.Answer.{AnswerDecides, Answered, answered}
 use Rattle.tl_feed.specs.declared.fault.AskFault.TheVariants.{OutOfMemory}
+use Rattle.tl_feed.specs.declared.question.WitnessAnswer.{WitnessAnswer}
+use Rattle.tl_feed.specs.declared.unasked.Unasked.{Unasked}
+use Rattle.tl_feed.specs.declared.unasked.Unasked.TheVariants.{Ask, Device, Growth, Other, Restless}
 
--- the request: its body is the question's, and of a response with status 200 or 409 the body and its type are read
-abbrev pub request_of : Bytes → Bytes → Body → Asked
-request_of host target question = record {
-  host = host;
-  target = target;
-  body = body_text question;
-  statuses = 200 ∷ 409 ∷ [];
-  field = codes "Content-Type";
-}
+-- the target under an address with this prefix to which questions are posted (C2SP tlog-witness, "add-checkpoint")
+pub record IsTarget (prefix target : Bytes) : Type 0 where
+  pub front : Bytes
+  pub cut : IsFront prefix front
+  pub is : target ≡ front ++ codes "/add-checkpoint"
+
+-- a POST request with the field Host and this body
+abbrev pub post_of : Bytes → Bytes → Bytes → Sent
+post_of host target body =
+    record { method = codes "POST"; target = target; fields = (codes "Host", host) ∷ []; body = body }
 
 -- the most bytes of a response's body
 abbrev pub most_answer : ℕ
 most_answer = 16384
 
--- the result of asking a witness, by the first case that applies; i is the reader, o the writer:
---     OutOfMemory  an allocation for the request failed; nothing is written or read
---     else         the question is sent by POST, and the reply decides
-abbrev pub Asks : Bytes → Bytes → Body → Passage → Passage → Answered → Type 0
-Asks host target question i o r =
-    ((r ≡ Err OutOfMemory) × IsUnwritten o × IsUnread i)
-    ⊎ ((reply : Replied) × Posts (request_of host target question) most_answer i o reply × AnswerDecides reply r)
+-- the responses that are wanted, with their type: those with status 200 or 409
+abbrev pub wanted : Sought
+wanted = record { statuses = 200 ∷ 409 ∷ []; field = codes "Content-Type"; limit = most_answer }
+
+-- one exchange, of a POST request with this question, may have this answer
+pub record MayAnswer (host target : Bytes) (question : Body) (r : Answered) : Type 0 where
+  pub reply : Replied
+  pub exchange : MayExchange (post_of host target (body_text question)) wanted reply
+  pub decides : AnswerDecides reply r
+
+-- the result of asking a witness at this target of a host: an answer that one exchange may have, or a refusal that one
+-- may have; or memory ran out, or the witness can't be reached or gave no answer in time
+abbrev pub AsksAt : {A : Type 0} → Bytes → Bytes → Body → Result (WitnessAnswer A) Unasked → Type 0
+AsksAt host target question (Ok answer) = MayAnswer host target question (answered (Ok answer))
+AsksAt host target question (Err (Ask fault)) = (fault ≡ OutOfMemory) ⊎ MayAnswer host target question (Err fault)
+AsksAt host target question (Err (Device why)) = Unit {0}
+AsksAt host target question (Err (Growth why)) = ⊥
+AsksAt host target question (Err Restless) = ⊥
+AsksAt host target question (Err Other) = ⊥
+
+-- the result of asking the witness at an address
+abbrev pub Asks : {A : Type 0} → Url → Body → Result (WitnessAnswer A) Unasked → Type 0
+Asks url question r =
+    (r ≡ Err (Ask OutOfMemory))
+    ⊎ ((target : Bytes) × IsTarget url.prefix.now target × AsksAt url.authority.now target question r)

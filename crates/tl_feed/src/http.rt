@@ -1,26 +1,23 @@
 //! A witness that is asked over HTTP.
 
-ghost use Rattle.std.specs.Prelude.{IfErr};
+ghost use Rattle.std.specs.Prelude.{◌≡◌, IfErr};
+ghost use Rattle.tl_feed.specs.Asking.{Asks};
+ghost use Rattle.tl_feed.specs.Question.{body_of};
 ghost use Rattle.tl_feed.specs.Refusing.{IsOfAsking};
 
-use crate::asking::ask_witness;
+use crate::asking::{ask_witness, target_under};
 use crate::fault::AskFault;
 use crate::proposed::{AsksWitness, Proposed};
 use crate::question::{Question, WitnessAnswer};
 use crate::unasked::Unasked;
-use std::alloc::{AllocError, Global};
+use std::alloc::Global;
 use std::net::{Net, TcpStream};
-use std::time::{Clock, Duration, Instant};
+use std::time::{Clock, Duration};
 use tl_client::ResourceSource;
-use tl_device::{Counted, DeviceFault, Timed};
-use tl_http::HttpFault;
-use tl_source::{Url, connect};
+use tl_source::{LogHost, Url};
 
-// The path under a witness's address to which requests are posted (C2SP tlog-witness, "add-checkpoint").
-const TARGET: &str = "/add-checkpoint";
-
-/// A witness at an address (C2SP tlog-witness, "add-checkpoint"). Each request has a connection of its own and a time
-/// limit.
+/// A witness at an address (C2SP tlog-witness, "add-checkpoint"). Each request has a time limit. The connection is
+/// kept from one request to the next.
 #[derive(Drop)]
 pub struct HttpWitness<'w, H> {
     /// Opens connections.
@@ -31,59 +28,50 @@ pub struct HttpWitness<'w, H> {
     pub url: Url<'w>,
     /// The most time that a request takes, apart from looking up the host's name.
     pub limit: Duration,
+    idle: Option<TcpStream>,
+}
+
+impl<'w, H> HttpWitness<'w, H> {
+    /// Returns the witness at this address. A request to it takes at most `limit`, apart from looking up the host's
+    /// name. It connects to nothing yet.
+    pub fn new(rt: &'w H, alloc: Global, url: Url<'w>, limit: Duration) -> HttpWitness<'w, H>
+        ensures url { result.url ≡ url.entry }
+        ensures limit { result.limit ≡ limit }
+    {
+        HttpWitness {
+            rt,
+            alloc,
+            url,
+            limit,
+            idle: None,
+        }
+    }
 }
 
 impl<H: Net<Stream = TcpStream> + Clock> HttpWitness<'_, H> {
-    // Returns the target under the witness's address.
-    fn target(&self) -> Result<String, AllocError> {
-        let front = self.url.prefix.strip_suffix('/').unwrap_or(self.url.prefix);
-        let mut target = String::from_str(self.alloc, front)?;
-        target.push_str(TARGET)?;
-        Ok(target)
-    }
-
     // Asks the witness, and returns its answer.
-    fn answer(&self, question: &Question<'_>) -> Result<WitnessAnswer<Global>, Unasked>
-        ensures { IfErr result IsOfAsking }
+    fn answer(&mut self, question: &Question<'_>) -> Result<WitnessAnswer<Global>, Unasked>
+        ensures fault { IfErr result IsOfAsking }
+        ensures answer { Asks self.old.url (body_of question.now) result }
+        ensures url { self.new.url ≡ self.old.url }
     {
-        let target = self.target()?;
-        let Ok(start) = Instant::now(self.rt) else {
-            return Err(Unasked::Device(DeviceFault::System));
+        let Ok(target) = target_under(self.alloc, self.url.prefix) else {
+            return Err(Unasked::Ask(AskFault::OutOfMemory));
         };
-        let stream = connect(self.rt, &self.url, &start, self.limit)?;
-        let mut reader = Counted::new(Timed::new(self.rt, &stream, start, self.limit));
-        let mut writer = Counted::new(Timed::new(self.rt, &stream, start, self.limit));
-        match ask_witness(
-            self.alloc,
-            &mut reader,
-            &mut writer,
-            self.url.authority,
-            target.as_str(),
-            question,
-        ) {
-            Ok(answer) => Ok(answer),
-            Err(fault) => Err(self.why_none(&start, fault)),
-        }
-    }
-
-    // Returns why the witness, asked at `start`, gave no answer.
-    fn why_none(&self, start: &Instant, fault: AskFault) -> Unasked
-        ensures { IsOfAsking result }
-    {
-        let is_late = match start.elapsed(self.rt) {
-            Ok(elapsed) => elapsed >= self.limit,
-            Err(_) => false,
+        let host = LogHost {
+            url: self.url,
+            limit: self.limit,
         };
-        match fault {
-            AskFault::Get(HttpFault::Read | HttpFault::Write) if is_late => {
-                Unasked::Device(DeviceFault::TimedOut)
-            }
-            _ => Unasked::Ask(fault),
-        }
+        let (rt, alloc, idle) = (self.rt, self.alloc, &mut self.idle);
+        ask_witness(rt, alloc, &host, idle, target.as_str(), question)
     }
 }
 
 impl<H: Net<Stream = TcpStream> + Clock> AsksWitness for HttpWitness<'_, H> {
+    ghost use Rattle.tl_feed.specs.Asking.{Asks};
+
+    ghost asks = { λ w question r. Asks w.url question r };
+
     fn ask<S: ResourceSource>(
         &mut self,
         _source: &S,

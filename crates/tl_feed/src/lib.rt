@@ -5,23 +5,9 @@
 //! checkpoint's, and the signed checkpoint. The witness answers with a cosignature, or with status 409 and the size
 //! that it has, from which the caller proves again.
 //!
-//! `ask_witness` sends one such request over a reader and a writer, and returns a `WitnessAnswer`. Its signature
-//! lines are unverified: append them to the note, and open it with the witness's key (`tl_note::open_note`).
-//! `AskFault` has a variant for each status by which a witness refuses. `question_bytes` returns the body of the
-//! request alone.
-//!
-//! ```rust
-//! // `stream` is a connection to the witness; `proof` leads from size 12 to the size of the checkpoint in `note`.
-//! let mut reader = Counted::new(&stream);
-//! let mut writer = Counted::new(&stream);
-//! let question = Question { old: 12, proof: &proof, note: &note };
-//! match ask_witness(alloc, &mut reader, &mut writer, "witness.example", "/add-checkpoint", &question) {
-//!     Ok(WitnessAnswer::Cosigned(lines)) => {} // signature lines, none of them verified yet
-//!     Ok(WitnessAnswer::At(size)) => {}        // the witness has this size: ask again with a proof from there
-//!     Err(AskFault::Untrusted) => {}           // 403: the witness doesn't trust the key that signed `note`
-//!     Err(_) => {}                             // why it didn't cosign
-//! }
-//! ```
+//! `HttpWitness` sends such requests over HTTP, and keeps the connection; `question_bytes` returns the body of one. Its
+//! answer is a `WitnessAnswer`. The signature lines are unverified: `line_of` checks them. `AskFault` has a variant for
+//! each status by which a witness refuses.
 //!
 //! A witness cosigns a checkpoint after it has seen a proof that the log only grew since the checkpoint that it
 //! cosigned before. `line_of` asks one witness: it makes the consistency proof from the size that the witness has,
@@ -35,7 +21,7 @@
 //!
 //! ```rust
 //! let proposed = Proposed { origin: "example.com/log", log: &log, note, head: &head };
-//! let mut asker = HttpWitness { rt, alloc, url, limit };
+//! let mut asker = HttpWitness::new(rt, alloc, url, limit);
 //! let mut known = 0; // the size that the witness cosigned last, as far as the caller knows
 //! let line = line_of(alloc, &source, &proposed, &mut known, &mut asker, &witness)?;
 //!
@@ -66,7 +52,6 @@ mod tally;
 mod unasked;
 mod writing;
 
-pub use asking::ask_witness;
 pub use ballot::Ballot;
 pub use fault::AskFault;
 pub use growing::growth_from;

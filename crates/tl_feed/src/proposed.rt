@@ -30,10 +30,18 @@ pub struct Proposed<'p> {
 
 /// Asks one witness. Its answers are untrusted. Its faults are `Device` or `Ask`.
 pub trait AsksWitness {
-    ghost use Rattle.std.specs.Prelude.{IfErr, map};
+    ghost use Rattle.std.specs.Global.{Global as GlobalValue};
+    ghost use Rattle.std.specs.Prelude.{IfErr, Result, map};
     ghost use Rattle.tl_feed.specs.Growing.{IsGrowthFrom};
     ghost use Rattle.tl_feed.specs.Proposing.{IsSignedBy};
+    ghost use Rattle.tl_feed.specs.Question.{body_of};
     ghost use Rattle.tl_feed.specs.Refusing.{IsOfAsking};
+    ghost use Rattle.tl_feed.specs.declared.question.WitnessAnswer.{WitnessAnswer};
+    ghost use Rattle.tl_feed.specs.declared.unasked.Unasked.{Unasked};
+    ghost use Rattle.tl_witness.specs.Request.{Body};
+
+    /// What one question may have as its result. An `impl` may leave it out.
+    ghost asks: { Self → Body → Result (WitnessAnswer GlobalValue) Unasked → Type 0 } = { λ _ _ _. Unit {0} };
 
     /// Returns the witness's answer. It is only ever called with a note that the log signed, and with the proof from
     /// the old size to that of the note's head.
@@ -47,5 +55,6 @@ pub trait AsksWitness {
             (map (λ v. key v) proposed.now.log.now) question.now.note.now proposed.now.head.now }
         requires proof { IsGrowthFrom (S.may_answer source.now)
             proposed.now.head.now question.now.old question.now.proof.now }
-        ensures { IfErr result IsOfAsking };
+        ensures fault { IfErr result IsOfAsking }
+        ensures asked { asks self.old (body_of question.now) result };
 }

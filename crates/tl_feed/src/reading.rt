@@ -2,13 +2,14 @@
 
 ghost use Rattle.std.specs.Prelude.{◌≡◌, ◌⊎◌, ◌↔◌, ℕ, IsTrue, IfOk, MatchOption, OnErr, Ok, Some, codes};
 ghost use Rattle.tl_feed.specs.Answer.{AnswerDecides, AreSignatures, IsSizeLine, LinesDecide, SizeDecides, answered};
-ghost use Rattle.tl_http.specs.Post.{replied, value_bytes};
+ghost use Rattle.tl_http.specs.Exchange as exchange;
+ghost use Rattle.tl_http.specs.Post.{value_bytes};
 
 use crate::fault::AskFault;
 use crate::question::WitnessAnswer;
 use std::alloc::{AllocError, Allocator};
 use std::str;
-use tl_http::Reply;
+use tl_http::Response;
 use tl_note::{NoteFault, parse_signatures};
 use tl_text::{parse_size, split_line};
 
@@ -86,13 +87,13 @@ fn read_size<A: Allocator>(
 /// Returns the answer in a response with status 200 or 409.
 pub(crate) fn read_answer<A: Allocator + Copy>(
     alloc: A,
-    reply: Reply<A>,
+    response: Response<A>,
 ) -> Result<WitnessAnswer<A>, AskFault>
-    requires { (reply.status ≡ 200) ⊎ (reply.status ≡ 409) }
-    ensures { AnswerDecides (replied (Ok reply)) (answered result) }
+    requires { (response.status ≡ 200) ⊎ (response.status ≡ 409) }
+    ensures { AnswerDecides (exchange.answered (Ok response)) (answered result) }
 {
-    if reply.status == 200 {
-        return read_lines(alloc, reply.body);
+    if response.status == 200 {
+        return read_lines(alloc, response.body);
     }
-    read_size(&reply.field, reply.body.as_slice())
+    read_size(&response.field, response.body.as_slice())
 }

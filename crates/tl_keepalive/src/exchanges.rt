@@ -8,6 +8,7 @@ ghost use Rattle.tl_keepalive.specs.Inner.Coming.{Concludes};
 ghost use Rattle.tl_keepalive.specs.declared.turn.Turn.TheVariants as Turn;
 ghost use Rattle.tl_keepalive.specs.Inner.Replying.{Replies};
 
+use crate::facts::MOST_HEAD;
 use crate::kept_text::{CLOSE, take_out};
 use crate::partial::Partial;
 use crate::resources::Resources;
@@ -17,9 +18,6 @@ use std::alloc::{AllocError, Global};
 use std::marker::Model;
 use tl_device::Counted;
 use tl_server::{Outcome, ServeFault, Submits};
-
-// The most bytes of a head.
-const MOST_HEAD: usize = 8192;
 
 /// The requests and the answers of one connection: what came and isn't answered yet, and what is to be sent.
 #[derive(Drop)]
@@ -87,7 +85,9 @@ impl Exchanges {
     }
 
     /// Reports whether nothing came that isn't answered.
-    pub fn is_idle(&self) -> bool {
+    pub fn is_idle(&self) -> bool
+        ensures { IsTrue result ↔ (self.now.came ≡ []) }
+    {
         self.came.is_empty()
     }
 
@@ -236,7 +236,6 @@ impl Exchanges {
     // Tries to answer what came, if nothing more comes.
     fn answer_last<P: Resources, T: Submits>(
         &mut self,
-        alloc: Global,
         resources: &mut P,
         queue: &mut T,
         may_stay: bool,
@@ -248,15 +247,14 @@ impl Exchanges {
             (T.submits queue.old queue.new)) may_stay self.old self.new result }
     {
         let mut reader = Counted::new(self.came.as_slice());
-        let mut writer = Counted::new(Vec::new(alloc));
-        let outcome = resources.answer(alloc, &mut reader, &mut writer, queue);
+        let mut writer = Counted::new(Vec::new(self.alloc));
+        let outcome = resources.answer(self.alloc, &mut reader, &mut writer, queue);
         self.conclude(outcome, writer.into_inner(), 0, may_stay)
     }
 
     // Tries to answer what came, if more may come.
     fn answer_next<P: Resources, T: Submits>(
         &mut self,
-        alloc: Global,
         resources: &mut P,
         queue: &mut T,
         may_stay: bool,
@@ -268,8 +266,8 @@ impl Exchanges {
             (T.submits queue.old queue.new)) may_stay self.old self.new result }
     {
         let mut reader = Counted::new(Partial::new(self.came.as_slice()));
-        let mut writer = Counted::new(Vec::new(alloc));
-        let outcome = resources.answer(alloc, &mut reader, &mut writer, queue);
+        let mut writer = Counted::new(Vec::new(self.alloc));
+        let outcome = resources.answer(self.alloc, &mut reader, &mut writer, queue);
         let asked = reader.into_inner().asked();
         let answer = writer.into_inner();
         self.conclude(outcome, answer, asked, may_stay)
@@ -280,7 +278,6 @@ impl Exchanges {
     /// 413, 431 or 500, or the request's body didn't come whole.
     pub fn answer<P: Resources, T: Submits>(
         &mut self,
-        alloc: Global,
         resources: &mut P,
         queue: &mut T,
         may_stay: bool,
@@ -293,8 +290,8 @@ impl Exchanges {
             return Turn::Unsent;
         }
         if self.has_ended {
-            return self.answer_last(alloc, resources, queue, may_stay);
+            return self.answer_last(resources, queue, may_stay);
         }
-        self.answer_next(alloc, resources, queue, may_stay)
+        self.answer_next(resources, queue, may_stay)
     }
 }

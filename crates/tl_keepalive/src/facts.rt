@@ -10,9 +10,10 @@ use http1::framing::{Framing, MethodKind, request_framing};
 use httparse::Status;
 use httparse::spans::{EMPTY_HEADER_SPAN, HeaderSpan, RequestSpans, parse_request};
 
-// The most bytes and fields of a head.
-const MOST_HEAD: usize = 8192;
+/// The most bytes of a head.
+pub(crate) const MOST_HEAD: usize = 8192;
 
+// The most fields of a head.
 const MOST_FIELDS: usize = 64;
 
 /// What the head of a request says of its connection and of its body.

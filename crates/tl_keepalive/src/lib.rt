@@ -9,7 +9,7 @@
 //! ```rust
 //! let mut exchanges = Exchanges::new(alloc);
 //! exchanges.feed(&buf[..count])?;
-//! match exchanges.answer(alloc, &mut resources, &mut queue, true) {
+//! match exchanges.answer(&mut resources, &mut queue, true) {
 //!     Turn::Answered(stays) => {} // send `exchanges.unsent()`, and then go on or close
 //!     Turn::More => {}            // read on
 //!     Turn::Later => {}           // try again once the queue knows the entry's index

@@ -36,4 +36,10 @@ pub trait Resources: Drop {
             (courses self.old self.new (queue.new ≡ queue.old) (T.submits queue.old queue.new))
             (passage I.remaining reader.old reader.new)
             (passage O.contents writer.old writer.new) result };
+
+    /// Forgets what was read for the answers so far: for the next ones it is read anew. An `impl` that keeps nothing
+    /// may leave it out.
+    fn forget(&mut self)
+        ensures { self.new ≡ self.old }
+    {}
 }

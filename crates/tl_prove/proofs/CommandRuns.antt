@@ -1,5 +1,5 @@
 -- How `prove` and `submit` end, by what their parts say.
-use Rattle.std.proofs.Common.{◌≡◌, ℕ, refl, ap, subst, inl, inr, string_bytes, vec_items, Option, Some, None, Ok, Err}
+use Rattle.std.proofs.Common.{◌≡◌, ℕ, refl, ap, subst, inl, inr, string_bytes, vec_items, Option, Some, None, Result, Ok, Err, sym}
 use Rattle.std.specs.Option.{is_some}
 use Rattle.sha2.specs.Sha256.{sha256}
 use Rattle.tl_hash.specs.Bytes.{Bytes}
@@ -15,17 +15,19 @@ use Rattle.tl_run.specs.declared.fault.RunFault.TheVariants as run
 use Rattle.tl_fetch.specs.declared.fault.FetchFault.{FetchFault}
 use Rattle.tl_fetch.specs.declared.fault.FetchFault.TheVariants as fetch
 use Rattle.tl_fetch.specs.declared.fault.Address.TheVariants.{From}
-use Rattle.tl_fetch.specs.Command.{HasScheme}
+use Rattle.tl_fetch.specs.Command.{HasScheme, IsOriginOf}
+use Rattle.tl_source.specs.Sources.{Origin}
 use Rattle.tl_prove.specs.Entry.{IsGiven}
 use Rattle.tl_prove.specs.Inner.Proving.{OpensSource, checkpoint_of, head_of}
 use Rattle.tl_prove.specs.Prove.{RefusesLeaf}
-use Rattle.tl_prove.specs.ProveCommand.{HasExtra, IsBadAddress, IsShownAs, ProvesFor, RunsProve}
-use Rattle.tl_prove.specs.SubmitCommand.{IsUrlOf, RefusesTaken, RunsSubmit, Submits, host_answers}
+use Rattle.tl_prove.specs.ProveCommand.{HasExtra, IsBadAddress, IsRequested, IsShownAs, ProvesBy, ProvesFor, RunsProve, source_answers}
+use Rattle.tl_prove.specs.SubmitCommand.{IsUrlOf, MayTake, RefusesTaken, RunsSubmit, Submits, host_answers}
 use Rattle.tl_prove.specs.declared.fault.ProveFault.{ProveFault}
 use Rattle.tl_prove.specs.declared.fault.ProveFault.TheVariants as flaw
 use Rattle.tl_prove.specs.declared.options.ProveOptions.{ProveOptions}
 use Rattle.tl_prove.specs.declared.options.SubmitOptions.{SubmitOptions}
 use Rattle.tl_prove.specs.declared.proving.TrustedNote.{TrustedNote}
+use Rattle.tl_prove.specs.declared.proving.Wanted.{Wanted}
 
 -- ---- the options
 
@@ -41,6 +43,15 @@ pub bad_address : (from text : Bytes) (why : FetchFault) → text ≡ from → (
 bad_address from text why same bad = (ap flaw.Fetch bad.0, subst HasScheme same bad.1, subst IsNoUrl same bad.2)
 
 -- ---- `prove`
+
+-- a proof of what the source of the options has, or why there is none
+pub proves_for : (options : ProveOptions) (policy : Bytes) (extra : Option Bytes) (from : Bytes) (origin at : Origin) (asked : Wanted) (r : Result Bytes ProveFault)
+    → from ≡ string_bytes options.from → IsOriginOf from origin → at ≡ origin → IsRequested options.wanted asked → ProvesBy (source_answers at) (λ r. Unit {0}) policy asked extra r
+    → ProvesFor options policy extra r
+proves_for options policy extra from origin at asked (Ok text) same is there requested proves =
+    (at, subst (λ (t : Bytes). IsOriginOf t at) same (subst (IsOriginOf from) (sym there) is), (asked, requested, proves))
+proves_for options policy extra from origin at asked (Err fault) same is there requested proves =
+    inr (inr (at, subst (λ (t : Bytes). IsOriginOf t at) same (subst (IsOriginOf from) (sym there) is), (asked, requested, proves)))
 
 -- the end of a run of `prove`
 module _ (options : ProveOptions) (policy : Bytes) (extra : Option Bytes) (o : Passage) (has : HasExtra options.extra extra) where
@@ -61,24 +72,29 @@ module _ (options : ProveOptions) (policy : Bytes) (extra : Option Bytes) (o : P
 pub not_taken : (answers : Resource → Bytes → Type 0) (lacks : Resource → Type 0) (p : Terms) (t : TrustedNote) (entry : Bytes) (index : ℕ) (leaf : Bytes) (fault : ProveFault)
     → OpensSource answers lacks p (Ok t) → leaf ≡ sha256 (leaf_input entry)
     → RefusesLeaf answers lacks (head_of t) index leaf fault
-    → RefusesTaken answers lacks p entry fault
-not_taken answers lacks p t entry index leaf fault opened is refused = (
-  index,
-  inr (record {
-    note = string_bytes t.note;
-    c = checkpoint_of t;
-    log = t.trusted.log;
-    times = vec_items t.trusted.times;
-    opened = opened;
-    refused = subst (λ (l : Bytes). RefusesLeaf answers lacks (head_of t) index l fault) is refused;
-  }),
-)
+    → RefusesTaken answers lacks p entry index fault
+not_taken answers lacks p t entry index leaf fault opened is refused =
+    inr (record {
+      note = string_bytes t.note;
+      c = checkpoint_of t;
+      log = t.trusted.log;
+      times = vec_items t.trusted.times;
+      opened = opened;
+      refused = subst (λ (l : Bytes). RefusesLeaf answers lacks (head_of t) index l fault) is refused;
+    })
 
--- what a host gave, by the address that the source has
-pub by_host : (at url : Url) (p : Terms) (entry : Bytes) (extra : Option Bytes) (fault shown : ProveFault) → at ≡ url → RefusesTaken (host_answers at) (λ r. Unit {0}) p entry fault → IsShownAs fault shown
+-- there is no proof of what the log took, by the address that the source has
+pub by_host : (at url : Url) (p : Terms) (entry : Bytes) (extra : Option Bytes) (index : ℕ) (fault shown : ProveFault) → at ≡ url → MayTake url entry index
+    → RefusesTaken (host_answers at) (λ r. Unit {0}) p entry index fault → IsShownAs fault shown
     → Submits url p entry extra (Err shown)
-by_host at url p entry extra fault shown is refused told =
-    inr (fault, told, subst (λ (u : Url). RefusesTaken (host_answers u) (λ r. Unit {0}) p entry fault) is refused)
+by_host at url p entry extra index fault shown is takes refused told =
+    inr (record {
+      index = index;
+      takes = takes;
+      fault = fault;
+      refused = subst (λ (u : Url). RefusesTaken (host_answers u) (λ r. Unit {0}) p entry index fault) is refused;
+      shown_as = told;
+    })
 
 -- the address of the options
 pub url_of : (to text : Bytes) (url : Url) → text ≡ to → IsUrlOf text url → IsUrlOf to url

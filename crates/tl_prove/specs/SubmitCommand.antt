@@ -1,16 +1,20 @@
 -- What `submit` does: which proof is printed, or why none is.
-use Rattle.std.specs.Prelude.{◌≡◌, ◌⊎◌, ℕ, ◌≤◌, List, [], ◌∷◌, Option, Result, Ok, Err, codes, string_bytes}
+use Rattle.std.specs.Prelude.{◌≡◌, ◌⊎◌, ℕ, ◌≤◌, ◌++◌, List, [], ◌∷◌, Option, Result, Ok, Err, codes, string_bytes}
 use Rattle.sha2.specs.Sha256.{sha256}
 use Rattle.tl_hash.specs.Bytes.{Bytes}
 use Rattle.tl_hash.specs.Tree.{leaf_input}
+use Rattle.tl_text.specs.Text.{number_text}
 use Rattle.tl_tile.specs.declared.resource.Resource.{Resource}
 use Rattle.tl_checkpoint.specs.Checkpoint as checkpoint
 use Rattle.tl_device.specs.Device.{Passage, IsUnwritten, WroteWhole}
-use Rattle.tl_http.specs.Post.{Asked}
+use Rattle.tl_http.specs.Exchange.{Sought}
+use Rattle.tl_http.specs.Message.{Sent}
+use Rattle.tl_http.specs.Post.{Given}
 use Rattle.tl_offline.specs.ProofText.{TlogProof}
 use Rattle.tl_policy.specs.Terms.{Terms}
 use Rattle.tl_policy.specs.ReadPolicy.{ReadsPolicy}
-use Rattle.tl_source.specs.Asking.{MayGive}
+use Rattle.tl_source.specs.Asking.{IsFront, MayGive}
+use Rattle.tl_source.specs.Calling.{MayExchange}
 use Rattle.tl_source.specs.Fulls.{may_answer_front}
 use Rattle.tl_source.specs.Url.{IsNoUrl, IsUrl}
 use Rattle.tl_source.specs.declared.url.Url.{Url}
@@ -27,9 +31,28 @@ use Rattle.tl_prove.specs.declared.fault.ProveFault.{ProveFault}
 use Rattle.tl_prove.specs.declared.fault.ProveFault.TheVariants.{Fetch, NoIndex, NotPosted, TooLate}
 use Rattle.tl_prove.specs.declared.options.SubmitOptions.{SubmitOptions}
 
--- the request that posts an entry
-abbrev pub post_of : Bytes → Bytes → Bytes → Asked
-post_of host target entry = record { host = host; target = target; body = entry; statuses = 200 ∷ []; field = codes "Content-Type" }
+-- the request that posts an entry, with the field Host
+abbrev pub post_of : Bytes → Bytes → Bytes → Sent
+post_of host target entry =
+    record { method = codes "POST"; target = target; fields = (codes "Host", host) ∷ []; body = entry }
+
+-- the responses that are wanted: those with status 200, whose body has at most 64 bytes
+abbrev pub wanted : Sought
+wanted = record { statuses = 200 ∷ []; field = codes "Content-Type"; limit = 64 }
+
+-- the target under an address with this prefix to which entries are posted
+pub record IsAddTarget (prefix target : Bytes) : Type 0 where
+  pub front : Bytes
+  pub cut : IsFront prefix front
+  pub is : target ≡ front ++ codes "/add"
+
+-- the log at this address may answer a post of the entry, one request, with this index
+pub record MayTake (url : Url) (entry : Bytes) (index : ℕ) : Type 0 where
+  pub target : Bytes
+  pub target_is : IsAddTarget url.prefix.now target
+  pub given : Given
+  pub exchange : MayExchange (post_of url.authority.now target entry) wanted (Ok given)
+  pub index_is : given.body ≡ number_text index
 
 -- the log didn't take the entry, or its answer is no index, or memory ran out
 abbrev pub IsNotTaken : ProveFault → Type 0
@@ -73,20 +96,28 @@ pub record IsNotProved (answers : Resource → Bytes → Type 0) (lacks : Resour
   pub refused : RefusesLeaf answers lacks (tree_of c) index (sha256 (leaf_input entry)) fault
 
 -- why a log that took the entry with this index gives no proof of it
-abbrev pub RefusesTaken : (Resource → Bytes → Type 0) → (Resource → Type 0) → Terms → Bytes → ProveFault → Type 0
-RefusesTaken answers lacks p entry fault =
-    (index : ℕ) × (RefusesLook answers lacks p index fault ⊎ IsNotProved answers lacks p entry index fault)
+abbrev pub RefusesTaken : (Resource → Bytes → Type 0) → (Resource → Type 0) → Terms → Bytes → ℕ → ProveFault → Type 0
+RefusesTaken answers lacks p entry index fault =
+    RefusesLook answers lacks p index fault ⊎ IsNotProved answers lacks p entry index fault
 
--- a proof of an entry that the log took, or why there is none
-abbrev pub ProvesTaken : (Resource → Bytes → Type 0) → (Resource → Type 0) → Terms → Bytes → Option Bytes → Result Bytes ProveFault → Type 0
-ProvesTaken answers lacks p entry extra (Ok text) = IsProofOf p entry extra text
-ProvesTaken answers lacks p entry extra (Err fault) = RefusesTaken answers lacks p entry fault
+-- a proof of an entry that the log took with this index, or why there is none
+abbrev pub ProvesTaken
+    : (Resource → Bytes → Type 0) → (Resource → Type 0) → Terms → Bytes → ℕ → Option Bytes → Result Bytes ProveFault → Type 0
+ProvesTaken answers lacks p entry index extra (Ok text) = IsProofOf p entry extra text
+ProvesTaken answers lacks p entry index extra (Err fault) = RefusesTaken answers lacks p entry index fault
 
--- posting the entry, and a proof of it, or why there is none
+-- the log took the entry, and there is no proof of it
+pub record IsTakenUnproved (url : Url) (p : Terms) (entry : Bytes) (shown : ProveFault) : Type 0 where
+  pub index : ℕ
+  pub takes : MayTake url entry index
+  pub fault : ProveFault
+  pub refused : RefusesTaken (host_answers url) (λ r. Unit {0}) p entry index fault
+  pub shown_as : IsShownAs fault shown
+
+-- posting the entry, and a proof of it once the log took it, or why there is none
 abbrev pub Submits : Url → Terms → Bytes → Option Bytes → Result Bytes ProveFault → Type 0
-Submits url p entry extra (Ok text) = IsProofOf p entry extra text
-Submits url p entry extra (Err shown) =
-    IsNotTaken shown ⊎ ((fault : ProveFault) × IsShownAs fault shown × RefusesTaken (host_answers url) (λ r. Unit {0}) p entry fault)
+Submits url p entry extra (Ok text) = ((index : ℕ) × MayTake url entry index) × IsProofOf p entry extra text
+Submits url p entry extra (Err shown) = IsNotTaken shown ⊎ IsTakenUnproved url p entry shown
 
 -- the texts of an address
 abbrev pub IsUrlOf : Bytes → Url → Type 0

@@ -11,7 +11,7 @@ use crate::entry::given_entry;
 use crate::fault::ProveFault;
 use crate::files::{policy_of, policy_text, read_extra};
 use crate::options::SubmitOptions;
-use crate::posting::{is_late, post_entry};
+use crate::posting::post_entry;
 use crate::prove_command::with_lack;
 use crate::proving::{Found, TrustedNote, open_source, prove_found};
 use std::alloc::{AllocError, Global};
@@ -39,6 +39,14 @@ fn may_pass(fault: &ProveFault) -> bool {
             | ProveFault::Fetch(FetchFault::Unavailable)
             | ProveFault::TooLate
     )
+}
+
+// Reports whether `limit` has passed since `start`.
+fn is_late<H: Clock>(rt: &H, start: &Instant, limit: Duration) -> bool {
+    match start.elapsed(rt) {
+        Ok(elapsed) => elapsed >= limit,
+        Err(_) => true,
+    }
 }
 
 // Returns the source's checkpoint, if the policy trusts it and it has the entry with this index. It fails with
@@ -107,7 +115,7 @@ fn prove_taken<H: Clock, S: ResourceSource>(
     limit: Duration,
 ) -> Result<String, ProveFault>
     ensures { ProvesTaken (S.may_answer source.now) (S.may_lack source.now) (terms_of policy.now)
-        entry.now (option_map vec_items extra) (text_of result) }
+        entry.now index (option_map vec_items extra) (text_of result) }
 {
     let checkpoint = match wait_for(rt, alloc, source, policy, index, start, limit) {
         Ok(checkpoint) => checkpoint,

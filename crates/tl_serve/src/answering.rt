@@ -1,7 +1,7 @@
 //! The threads that answer connections.
 
-use crate::connection::Context;
 use crate::connections::Connections;
+use crate::context::Context;
 use crate::host::Host;
 use crate::listener::Listener;
 use crate::signals::Signals;

@@ -1,7 +1,8 @@
 //! One connection, which waits without a thread of its own.
 
+use crate::context::Context;
+use crate::moment::{Limits, Moment};
 use crate::receipt::Receipt;
-use crate::signals::Signals;
 use crate::submission::Submission;
 use mio::Interest;
 use mio::net::TcpStream;
@@ -57,32 +58,6 @@ pub(crate) struct Connection {
     is_late: bool,
     // Whether the client was told to send the body.
     has_continued: bool,
-}
-
-/// What connections are answered with: the system, memory, and the signals between the threads.
-#[derive(Drop)]
-pub(crate) struct Context<'h, H> {
-    pub(crate) rt: &'h H,
-    pub(crate) alloc: Global,
-    pub(crate) signals: &'h Signals,
-}
-
-/// The time, and how long connections are kept.
-#[derive(Clone, Copy)]
-pub(crate) struct Moment {
-    /// The time, in milliseconds.
-    pub(crate) now: u64,
-    /// Whether connections may stay open after an answer.
-    pub(crate) may_stay: bool,
-}
-
-/// How many milliseconds a connection has.
-#[derive(Clone, Copy)]
-pub(crate) struct Limits {
-    /// For one request.
-    pub(crate) request: u64,
-    /// Until its next request comes.
-    pub(crate) idle: u64,
 }
 
 /// What to do next with a connection.
@@ -230,9 +205,7 @@ impl Connection {
             is_late: self.is_late,
         };
         let may_stay = moment.may_stay && self.requests < MOST_REQUESTS - 1;
-        let turn = self
-            .exchanges
-            .answer(context.alloc, resources, &mut submission, may_stay);
+        let turn = self.exchanges.answer(resources, &mut submission, may_stay);
         self.receipt = submission.receipt;
         match turn {
             Turn::Answered(stays) => {

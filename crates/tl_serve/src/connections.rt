@@ -1,7 +1,9 @@
 //! The connections that a thread holds. They wait without threads of their own.
 
-use crate::connection::{Connection, Context, Moment, Next};
+use crate::connection::{Connection, Next};
+use crate::context::Context;
 use crate::listener::{ACCEPT, Accepted, Listener};
+use crate::moment::Moment;
 use crate::signals::Signals;
 use mio::{Events, Poll, Token};
 use slab::Slab;
@@ -368,8 +370,8 @@ impl<'d, H: Clock + Net + Wait> Connections<'d, H> {
         Ok(())
     }
 
-    /// Answers connections, until no more are to be accepted and none is held. Fails with `Accept` if accepting fails
-    /// for good.
+    /// Answers connections, until no more are to be accepted and none is held. What is read for an answer is
+    /// forgotten before the thread waits. Fails with `Accept` if accepting fails for good.
     pub(crate) fn answer_all<P: Resources>(&mut self, resources: P) -> Result<(), RunFault> {
         let mut resources = resources;
         let mut events = Events::with_capacity(self.context.alloc, MOST_EVENTS)?;
@@ -380,6 +382,7 @@ impl<'d, H: Clock + Net + Wait> Connections<'d, H> {
                 break;
             }
             let pause = self.pause();
+            resources.forget();
             if self.poll.poll(&mut events, pause).is_err() {
                 return Err(RunFault::Accept);
             }

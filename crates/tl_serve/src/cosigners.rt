@@ -112,12 +112,7 @@ impl<H: Wait + Clock + Net<Stream = TcpStream>, P: Shelf + Drop> AsksInRounds<P>
             return;
         };
         let (rt, alloc, ballot) = (self.rt, self.alloc, self.ballot);
-        let mut asker = HttpWitness {
-            rt,
-            alloc,
-            url: *url,
-            limit: self.limit,
-        };
+        let mut asker = HttpWitness::new(rt, alloc, *url, self.limit);
         let log = LogIdentity {
             origin: self.origin,
             keys: self.log,

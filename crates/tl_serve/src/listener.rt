@@ -1,7 +1,7 @@
 //! The listener of a server, which accepts connections for its threads.
 
 use crate::bound_listener::BoundListener;
-use crate::connection::Limits;
+use crate::moment::Limits;
 use crate::options::ListenOptions;
 use mio::unix::SourceFd;
 use mio::{Interest, Poll, Token, Waker};
@@ -105,6 +105,21 @@ fn watch_all<H: Net>(
     Ok((polls, wakers))
 }
 
+// Takes one off a count, and reports whether there was one.
+fn take_one(count: &AtomicU64) -> bool {
+    for _ in 0..u64::MAX {
+        let left = count.load(Ordering::SeqCst);
+        if left == 0 {
+            return false;
+        }
+        let taken = count.compare_exchange(left, left - 1, Ordering::SeqCst, Ordering::SeqCst);
+        if taken.is_ok() {
+            return true;
+        }
+    }
+    false
+}
+
 impl Listener {
     /// Opens the listener at this address for this many threads, and reports the address. Fails with `Accept` if the
     /// system refuses to watch it.
@@ -179,26 +194,6 @@ impl Listener {
         self.is_closed() || self.left.load(Ordering::SeqCst) == 0
     }
 
-    // Takes one of the connections that are left, and reports whether there was one.
-    fn take_one(&self) -> bool {
-        for _ in 0..u64::MAX {
-            if self.is_over() {
-                return false;
-            }
-            let left = self.left.load(Ordering::SeqCst);
-            if left == 0 {
-                return false;
-            }
-            let taken = self
-                .left
-                .compare_exchange(left, left - 1, Ordering::SeqCst, Ordering::SeqCst);
-            if taken.is_ok() {
-                return true;
-            }
-        }
-        false
-    }
-
     // Accepts the connection that was taken. If none comes, it is given back. If it was the last,
     // all threads are woken.
     fn accept_taken(&self) -> Result<TcpStream, io::Error> {
@@ -218,7 +213,7 @@ impl Listener {
 
     /// Returns the next connection, if one is pending. Fails with `Accept` if accepting fails for good.
     pub(crate) fn accept(&self) -> Result<Accepted, RunFault> {
-        if !self.take_one() {
+        if self.is_closed() || !take_one(&self.left) {
             return Ok(Accepted::Over);
         }
         match self.accept_taken() {
@@ -258,19 +253,7 @@ impl Listener {
 
     /// Reports whether it is up to this thread to close one.
     pub(crate) fn takes_room(&self) -> bool {
-        for _ in 0..u64::MAX {
-            let wanted = self.wanted.load(Ordering::SeqCst);
-            if wanted == 0 {
-                return false;
-            }
-            let taken = self
-                .wanted
-                .compare_exchange(wanted, wanted - 1, Ordering::SeqCst, Ordering::SeqCst);
-            if taken.is_ok() {
-                return true;
-            }
-        }
-        false
+        take_one(&self.wanted)
     }
 
     /// Counts a connection that begins to wait for its next request.

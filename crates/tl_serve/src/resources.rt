@@ -10,7 +10,8 @@ use tl_device::Counted;
 use tl_keepalive::Resources;
 use tl_publisher::BoardReader;
 use tl_server::{
-    Outcome, ServeFault, Submits, serve_log, serve_open_log, serve_open_shelf, serve_shelf,
+    Outcome, ReadBack, ServeFault, Submits, serve_log, serve_open_log, serve_open_shelf,
+    serve_shelf,
 };
 
 /// Returns the outcome of a request that was answered at once: with this status, or not at all if
@@ -57,8 +58,8 @@ impl Resources for OnBoard {
 
 /// The resources of a shelf.
 #[derive(Drop)]
-pub(crate) struct OnShelf<S> {
-    pub(crate) shelf: S,
+pub(crate) struct OnShelf<S: Shelf> {
+    pub(crate) shelf: ReadBack<S, Global>,
     /// Whether the log takes posted entries.
     pub(crate) is_open: bool,
 }
@@ -79,8 +80,12 @@ impl<S: Shelf + Send + Drop> Resources for OnShelf<S> {
         queue: &mut T,
     ) -> Result<Outcome, ServeFault> {
         if self.is_open {
-            return serve_open_shelf(alloc, reader, writer, &self.shelf, queue);
+            return serve_open_shelf(alloc, reader, writer, &mut self.shelf, queue);
         }
-        outcome_of(serve_shelf(alloc, reader, writer, &self.shelf))
+        outcome_of(serve_shelf(alloc, reader, writer, self.shelf.shelf()))
+    }
+
+    fn forget(&mut self) {
+        self.shelf.forget();
     }
 }

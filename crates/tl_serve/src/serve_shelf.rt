@@ -40,6 +40,7 @@ use tl_loop::PublishLoop;
 use tl_note::is_key_name;
 use tl_run::RunFault;
 use tl_sequencer::{Intake, OpenFault, Submitter};
+use tl_server::ReadBack;
 
 /// A shelf that is given back, and how its server ended.
 #[derive(Drop)]
@@ -51,13 +52,14 @@ pub struct Served<S> {
 }
 
 // Returns what each thread answers from.
-fn resources_of<P: Drop>(
+fn resources_of<P: Shelf + Drop>(
     alloc: Global,
     shown: Vec<P>,
     is_open: bool,
 ) -> Result<Vec<OnShelf<P>>, AllocError> {
     let mut resources = Vec::new(alloc);
     for shelf in shown {
+        let shelf = ReadBack::new(shelf);
         resources.push(OnShelf { shelf, is_open })?;
     }
     Ok(resources)
@@ -85,7 +87,7 @@ fn open_lanes(
 
 // A log that was found on a shelf, its lanes, and what it is answered from.
 #[derive(Drop)]
-struct Opened<P> {
+struct Opened<P: Shelf> {
     log: OpenedLog,
     intake: Intake<Global, Global>,
     lanes: Vec<Sending>,
@@ -94,7 +96,7 @@ struct Opened<P> {
 }
 
 // Opens the log on a shelf, and the lanes that the options ask for.
-fn open_log<S: LogShelf + Drop, P: Drop, R: Read>(
+fn open_log<S: LogShelf + Drop, P: Shelf + Drop, R: Read>(
     alloc: Global,
     options: &ServeOptions,
     verifier: LogOpeningKey,

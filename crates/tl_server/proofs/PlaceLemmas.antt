@@ -5,7 +5,7 @@ use Rattle.tl_tile.specs.declared.resource.Resource.{Resource}
 use Rattle.tl_tile.specs.declared.resource.Resource.TheVariants as resource
 use Rattle.tl_server.specs.Adding.{Course, PlaceAnswers, LooksOnce, LooksTwice, bundle_answer}
 use Rattle.tl_server.specs.Answer.{Answer, bare}
-use Rattle.tl_server.specs.Inner.Places.{IsLooked, LookedCourse}
+use Rattle.tl_server.specs.Inner.Places.{IsLooked, LookedCourse, ReadsBundle}
 use Rattle.tl_server.specs.declared.look.Looked.{Looked}
 use Rattle.tl_server.specs.declared.look.Looked.TheVariants as looked
 
@@ -19,6 +19,12 @@ once_gives Gives bundle width seen a looks = looks.1
 twice_gives : (Gives : Resource → Answer → Type 0) → GivesWhatLooksFind Gives (LooksTwice Gives)
 twice_gives Gives bundle width seen a (inl looks) = looks.0.1
 twice_gives Gives bundle width seen a (inr looks) = looks.1.1
+
+-- the bundle that looking on a shelf found was read
+pub read_of_looked : {A : Type 0} (Gives : Resource → Answer → Type 0) (bundle width : ℕ) (found : Looked A) → IsLooked (LooksTwice Gives bundle width) found → IsLooked (ReadsBundle Gives bundle) found
+read_of_looked Gives bundle width looked.Failed looks = (looks.0, twice_gives Gives bundle width looks.0 (bare 500) looks.1)
+read_of_looked Gives bundle width looked.Nothing looks = (looks.0, twice_gives Gives bundle width looks.0 (bare 404) looks.1)
+read_of_looked Gives bundle width (looked.Bytes bytes seen) looks = twice_gives Gives bundle width seen (bundle_answer (vec_items bytes)) looks
 
 -- what was found is equal to this
 pub looked_as : {A : Type 0} (index : ℕ) (entry : List ℕ) (found other : Looked A) (c : Course) → found ≡ other → LookedCourse index entry other c → LookedCourse index entry found c

@@ -53,15 +53,15 @@ pub(crate) fn answer_looked<A: Allocator, O: Write>(
     writer: &mut Counted<O>,
     index: u64,
     entry: &[u8],
-    looked: Looked<A>,
+    looked: &Looked<A>,
 ) -> Result<Outcome, ServeFault>
-    ensures { Concluded (LookedCourse index entry.now looked)
+    ensures { Concluded (LookedCourse index entry.now looked.now)
         (passage O.contents writer.old writer.new) result }
 {
     let (bytes, width) = match looked {
         Looked::Failed => return outcome_of(refuse(writer, 500)),
         Looked::Nothing => return answer_misplaced(writer),
-        Looked::Bytes(bytes, width) => (bytes, width),
+        Looked::Bytes(bytes, width) => (bytes, *width),
     };
     let place = (index % 256) as u32;
     if has_entry(bytes.as_slice(), width, place, entry) {

@@ -4,8 +4,8 @@
 //! `serve_log` answers GET requests for the resources of a log, its checkpoint, tiles and bundles, from a reader of
 //! the board in memory; `serve_shelf` does the same from a `Shelf`, such as a folder. `serve_open_log` and
 //! `serve_open_shelf` answer these requests too, and take entries: `POST /add` submits the body to a queue
-//! (`Submits`), and is answered with the entry's index once the published bundle has the entry there. `serve_witness`
-//! answers a witness's add-checkpoint requests.
+//! (`Submits`), and is answered with the entry's index once the published bundle has the entry there. A `ReadBack` is a
+//! shelf that keeps the bundle it read last for that. `serve_witness` answers a witness's add-checkpoint requests.
 //!
 //! Each call reads one request and writes one answer. Accepting connections, threads and time limits are the
 //! caller's.
@@ -43,6 +43,7 @@ mod open_log;
 mod open_shelf;
 mod post;
 mod posted;
+mod read_back;
 mod receive;
 mod sending;
 mod shelf;
@@ -54,5 +55,6 @@ pub use log::serve_log;
 pub use open_log::serve_open_log;
 pub use open_shelf::serve_open_shelf;
 pub use post::serve_witness;
+pub use read_back::ReadBack;
 pub use shelf::serve_shelf;
 pub use witness::Witness;

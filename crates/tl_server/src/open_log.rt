@@ -50,7 +50,7 @@ fn answer_status<A: Allocator, B: Allocator, O: Write>(
     let bundle = index / 256;
     let width = bundle_width(size, bundle);
     let looked = look_on_board(alloc, board, bundle, width);
-    answer_looked(writer, index, entry, looked)
+    answer_looked(writer, index, entry, &looked)
 }
 
 // Receives the body that a head announces, and submits it as an entry. `part` is the part that came with the head.

@@ -11,10 +11,10 @@ use crate::adding::{EntryStatus, Outcome, Submits};
 use crate::course::{answer_looked, answer_misplaced, outcome_of};
 use crate::fault::ServeFault;
 use crate::head::{HeadRead, MOST_FIELDS, MOST_HEAD, read_head};
-use crate::look::look_on_shelf;
 use crate::method::is_text;
 use crate::open_log::MOST_ENTRY;
 use crate::posted::{Posted, posted_of};
+use crate::read_back::ReadBack;
 use crate::receive::{Received, receive};
 use crate::sending::{refuse, refuse_busy, refuse_post};
 use crate::shelf::answer_shelf;
@@ -29,11 +29,12 @@ use tl_tile::bundle_width;
 fn answer_status<A: Allocator + Copy, S: Shelf, O: Write>(
     alloc: A,
     writer: &mut Counted<O>,
-    shelf: &S,
+    shelf: &mut ReadBack<S, A>,
     entry_status: EntryStatus,
     entry: &[u8],
 ) -> Result<Outcome, ServeFault>
-    ensures { Concluded (StatusOnShelf A S.is_honest (S.kept shelf.now).held (S.may_fail shelf.now)
+    ensures same { shelf.new ≡ shelf.old }
+    ensures answered { Concluded (StatusOnShelf A S.is_honest (S.kept shelf.old).held (S.may_fail shelf.old)
         entry_status entry.now) (passage O.contents writer.old writer.new) result }
 {
     let (index, size) = match entry_status {
@@ -47,8 +48,10 @@ fn answer_status<A: Allocator + Copy, S: Shelf, O: Write>(
     }
     let bundle = index / 256;
     let width = bundle_width(size, bundle);
-    let looked = look_on_shelf(alloc, shelf, bundle, width);
-    answer_looked(writer, index, entry, looked)
+    let looked = shelf.look(alloc, bundle, width);
+    let answered = answer_looked(writer, index, entry, &looked);
+    shelf.keep(bundle, looked);
+    answered
 }
 
 // Receives the body that a head announces, and submits it as an entry. `part` is the part that came with the head.
@@ -56,15 +59,16 @@ fn answer_posted<A: Allocator + Copy, S: Shelf, T: Submits, I: Read, O: Write>(
     alloc: A,
     reader: &mut Counted<I>,
     writer: &mut Counted<O>,
-    shelf: &S,
+    shelf: &mut ReadBack<S, A>,
     queue: &mut T,
     posted: Posted,
     part: &[u8],
 ) -> Result<Outcome, ServeFault>
-    ensures { ServesOpen (queue.new ≡ queue.old)
+    ensures same { shelf.new ≡ shelf.old }
+    ensures answered { ServesOpen (queue.new ≡ queue.old)
         (Rest (PostCourses (queue.new ≡ queue.old) (Unit {0}) (SomeStatus
-        (T.submits queue.old queue.new) (StatusOnShelf A S.is_honest (S.kept shelf.now).held
-        (S.may_fail shelf.now))) posted part.now))
+        (T.submits queue.old queue.new) (StatusOnShelf A S.is_honest (S.kept shelf.old).held
+        (S.may_fail shelf.old))) posted part.now))
         (passage I.remaining reader.old reader.new)
         (passage O.contents writer.old writer.new) result }
 {
@@ -80,16 +84,18 @@ fn answer_posted<A: Allocator + Copy, S: Shelf, T: Submits, I: Read, O: Write>(
 }
 
 /// Answers one request to a log on a shelf that takes entries: `POST /add` as `serve_open_log`, and any other target
-/// as `serve_shelf`. If a shelf doesn't have the bundle for the reported size, the full bundle is read instead.
+/// as `serve_shelf`. If a shelf doesn't have the bundle for the reported size, the full bundle is read instead. A
+/// bundle that was read is kept until `forget`.
 pub fn serve_open_shelf<A: Allocator + Copy, S: Shelf, T: Submits, I: Read, O: Write>(
     alloc: A,
     reader: &mut Counted<I>,
     writer: &mut Counted<O>,
-    shelf: &S,
+    shelf: &mut ReadBack<S, A>,
     queue: &mut T,
 ) -> Result<Outcome, ServeFault>
-    ensures { AnswersOpenShelf A (queue.new ≡ queue.old) (T.submits queue.old queue.new)
-        S.is_honest (S.kept shelf.now).held (S.may_fail shelf.now)
+    ensures same { shelf.new ≡ shelf.old }
+    ensures answered { AnswersOpenShelf A (queue.new ≡ queue.old) (T.submits queue.old queue.new)
+        S.is_honest (S.kept shelf.old).held (S.may_fail shelf.old)
         (passage I.remaining reader.old reader.new)
         (passage O.contents writer.old writer.new) result }
 {
@@ -103,7 +109,7 @@ pub fn serve_open_shelf<A: Allocator + Copy, S: Shelf, T: Submits, I: Read, O: W
             let bytes = &buf[..len];
             let (method, target) = (spans.method.of(bytes), spans.path.of(bytes));
             if !is_text(target, b"/add") {
-                return outcome_of(answer_shelf(alloc, writer, shelf, method, target));
+                return outcome_of(answer_shelf(alloc, writer, shelf.shelf(), method, target));
             }
             let posted = posted_of(bytes, &headers, spans, MOST_ENTRY);
             let part = &bytes[spans.len..];

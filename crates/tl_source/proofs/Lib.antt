@@ -1,4 +1,5 @@
 pub mod Cuts
 pub mod Hosts
 pub mod Urls
+pub mod Responses
 pub mod Askings

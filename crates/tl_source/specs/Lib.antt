@@ -1,4 +1,5 @@
 pub mod Url
+pub mod Calling
 pub mod Asking
 pub mod Lacking
 pub mod Caches

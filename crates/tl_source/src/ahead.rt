@@ -7,7 +7,7 @@ ghost use Rattle.tl_source.specs.Asking.{MayGive};
 use crate::host::{LogHost, body_of};
 use std::alloc::{AllocError, Global};
 use std::net::{Net, TcpListener, TcpStream};
-use std::thread::{Threads, map_indices};
+use std::thread::{Threads, map_vec};
 use std::time::Clock;
 use tl_client::ResourceSource;
 use tl_folder::has_path;
@@ -52,11 +52,26 @@ pub(crate) struct Got {
     pub(crate) bytes: Vec<u8>,
 }
 
+/// What came of a request, if an answer did, and the connection, if it can carry another request.
+#[derive(Drop)]
+pub(crate) struct Asked {
+    pub(crate) got: Option<Got>,
+    pub(crate) idle: Option<TcpStream>,
+}
+
+// A resource to ask for, and a connection over which to ask.
+#[derive(Drop)]
+struct Job {
+    resource: Resource,
+    idle: Option<TcpStream>,
+}
+
 // Asks the host for a resource. It is `None` if no answer came.
 fn ask_host<H: Net<Stream = TcpStream> + Clock>(
     rt: &H,
     alloc: Global,
     host: &LogHost<'_>,
+    idle: &mut Option<TcpStream>,
     resource: &Resource,
 ) -> Option<Got>
     ensures { IsAnswer
@@ -65,7 +80,7 @@ fn ask_host<H: Net<Stream = TcpStream> + Clock>(
     if !has_path(resource) {
         return None;
     }
-    match body_of(rt, alloc, host, resource) {
+    match body_of(rt, alloc, host, idle, resource) {
         Ok(bytes) => Some(Got {
             resource: *resource,
             bytes,
@@ -74,37 +89,66 @@ fn ask_host<H: Net<Stream = TcpStream> + Clock>(
     }
 }
 
+// Asks the host for the resource of a job, over its connection or a new one.
+fn run_job<H: Net<Stream = TcpStream> + Clock>(
+    rt: &H,
+    alloc: Global,
+    host: &LogHost<'_>,
+    job: Job,
+) -> Asked
+    ensures { IsAnswer
+        (MayGive host.now.url.authority.now host.now.url.prefix.now) result.got }
+{
+    let Job { resource, mut idle } = job;
+    let got = ask_host(rt, alloc, host, &mut idle, &resource);
+    Asked { got, idle }
+}
+
+// Returns a job for each of these resources, with the connections that the last requests left.
+fn jobs_for(alloc: Global, wanted: &[Resource], last: Vec<Asked>) -> Result<Vec<Job>, AllocError> {
+    let mut jobs = Vec::new(alloc);
+    let mut last = last.into_iter();
+    for resource in wanted {
+        let idle = match last.next() {
+            Some(asked) => asked.idle,
+            None => None,
+        };
+        jobs.push(Job {
+            resource: *resource,
+            idle,
+        })?;
+    }
+    Ok(jobs)
+}
+
 // Asks the host for each of these resources, all at once.
 fn ask_each<H: HostClient>(
     rt: &H,
     alloc: Global,
     host: &LogHost<'_>,
     wanted: &[Resource],
-) -> Result<Vec<Option<Got>>, AllocError>
-    ensures { IfOk result (λ all. All (IsAnswer
-        (MayGive host.now.url.authority.now host.now.url.prefix.now)) all.items) }
+    last: Vec<Asked>,
+) -> Result<Vec<Asked>, AllocError>
+    ensures { IfOk result (λ all. All (λ asked. IsAnswer
+        (MayGive host.now.url.authority.now host.now.url.prefix.now) asked.got) all.items) }
 {
-    map_indices(
-        rt,
-        alloc,
-        wanted.len(),
-        &|i| ask_host(rt, alloc, host, &wanted[i]),
-    )
+    let jobs = jobs_for(alloc, wanted, last)?;
+    map_vec(rt, jobs, &|job| run_job(rt, alloc, host, job))
 }
 
-/// Asks the host of a source for the first `at_once` of these resources, all at once. Returns an empty list if there
-/// is no host or memory runs out.
+/// Asks the host of a source for the first `at_once` of these resources, all at once, each over a connection that one
+/// of the last requests left, or over a new one. Returns an empty list if there is no host or memory runs out.
 pub(crate) fn answers_of<
     S: AsksHost,
     H: Threads + Sync + Net<Listener = TcpListener, Stream = TcpStream> + Clock,
->(requests: &Requests<'_, H>, source: &S, wanted: &[Resource]) -> Vec<Option<Got>>
-    ensures { All (IsAnswer (S.may_answer source.now)) result.items }
+>(requests: &Requests<'_, H>, source: &S, wanted: &[Resource], last: Vec<Asked>) -> Vec<Asked>
+    ensures { All (λ asked. IsAnswer (S.may_answer source.now) asked.got) result.items }
 {
     let Some(host) = source.host() else {
         return Vec::new(requests.alloc);
     };
     let count = wanted.len().min(usize::from(requests.at_once));
-    match ask_each(requests.rt, requests.alloc, host, &wanted[..count]) {
+    match ask_each(requests.rt, requests.alloc, host, &wanted[..count], last) {
         Ok(all) => all,
         Err(_) => Vec::new(requests.alloc),
     }

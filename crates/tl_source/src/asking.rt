@@ -1,42 +1,67 @@
-//! One request for a resource over a connection.
+//! One request for a resource.
 
-ghost use Rattle.std.specs.Prelude.{◌≢◌, ◌≤◌, length, IfOk, IfErr, Err, Ok};
-ghost use Rattle.tl_device.specs.Device.{passage};
 ghost use Rattle.tl_tile.specs.Path.{IsResource};
-ghost use Rattle.tl_folder.specs.Limits.{most_bytes};
-ghost use Rattle.tl_source.specs.Asking.{Asks};
+ghost use Rattle.tl_source.specs.Asking.{request_of, wanted_up_to};
+ghost use Rattle.tl_source.specs.Calling.{Calls};
+ghost use Rattle.tl_source.specs.Inner.Asking.{AsksFor};
 
+use crate::calling::{CallFault, call};
+use crate::host::LogHost;
 use crate::place::front_of;
-use crate::url::Url;
 use std::alloc::Global;
-use std::io::{Read, Write};
-use tl_device::Counted;
+use std::net::{Net, TcpStream};
+use std::time::Clock;
 use tl_folder::{most_bytes, path_under};
-use tl_http::{HttpFault, get};
+use tl_http::{FieldLine, HttpFault, Message, Response};
 use tl_tile::Resource;
 
-/// Asks the host of an address for a resource with one GET request. Returns the body of a response with status 200,
-/// of at most `most_bytes`. The fault says why no whole body came.
-pub(crate) fn ask<I: Read, O: Write>(
+// Asks the host for a target with one GET request, for a body of at most `most` bytes.
+fn ask_for<H: Net<Stream = TcpStream> + Clock>(
+    rt: &H,
     alloc: Global,
-    reader: &mut Counted<I>,
-    writer: &mut Counted<O>,
-    url: &Url<'_>,
-    resource: &Resource,
-) -> Result<Vec<u8>, HttpFault>
-    requires { IsResource resource.now }
-    ensures body { IfOk result (λ body. Asks url.now.authority.now url.now.prefix.now resource.now
-        (passage I.remaining reader.old reader.new)
-        (passage O.contents writer.old writer.new) (Ok body.items)) }
-    ensures short { IfOk result (λ body. length body.items ≤ most_bytes resource.now) }
-    ensures refused { IfErr result (λ why. why ≢ HttpFault.OutOfMemory
-        → Asks url.now.authority.now url.now.prefix.now resource.now (passage I.remaining
-        reader.old reader.new) (passage O.contents writer.old writer.new) (Err why)) }
+    host: &LogHost<'_>,
+    idle: &mut Option<TcpStream>,
+    target: &str,
+    most: usize,
+) -> Result<Response<Global>, CallFault>
+    ensures { Calls (request_of host.now.url.authority.now target.now) (wanted_up_to most) result }
 {
-    let target = path_under(alloc, front_of(url.prefix), resource)?;
+    let fields = [FieldLine {
+        name: "Host",
+        value: host.url.authority,
+    }];
+    let message = Message {
+        method: "GET",
+        target,
+        fields: &fields,
+        body: b"",
+        statuses: &[200],
+        field: "",
+    };
+    call(rt, alloc, host, idle, &message, most)
+}
+
+/// Asks a host for a resource with one GET request, over the idle connection or a new one. Returns the body of a
+/// response with status 200, of at most `most_bytes`. The fault says why no whole body came.
+pub(crate) fn ask<H: Net<Stream = TcpStream> + Clock>(
+    rt: &H,
+    alloc: Global,
+    host: &LogHost<'_>,
+    idle: &mut Option<TcpStream>,
+    resource: &Resource,
+) -> Result<Vec<u8>, CallFault>
+    requires { IsResource resource.now }
+    ensures { AsksFor host.now.url.authority.now host.now.url.prefix.now resource.now result }
+{
+    let Ok(target) = path_under(alloc, front_of(host.url.prefix), resource) else {
+        return Err(CallFault::Failed {
+            fault: HttpFault::OutOfMemory,
+            is_late: false,
+        });
+    };
     let most = most_bytes(resource) as usize;
-    match get(alloc, reader, writer, url.authority, target.as_str(), most) {
-        Ok(body) => Ok(body),
+    match ask_for(rt, alloc, host, idle, target.as_str(), most) {
+        Ok(response) => Ok(response.body),
         Err(fault) => Err(fault),
     }
 }

@@ -1,4 +1,4 @@
-//! The host of a log over HTTP.
+//! A host over HTTP.
 
 ghost use Rattle.std.specs.Prelude.{◌≡◌, IfOk};
 ghost use Rattle.tl_tile.specs.Path.{IsResource};
@@ -10,16 +10,16 @@ use crate::url::Url;
 use std::alloc::Global;
 use std::net::{Net, TcpStream, ToSocketAddrs};
 use std::time::{Clock, Duration, Instant};
-use tl_device::{Counted, DeviceFault, Timed};
+use tl_device::DeviceFault;
 use tl_http::HttpFault;
 use tl_tile::Resource;
 
-/// The host of a log over HTTP/1.1, and how long a request to it may take.
+/// The host of a log or of a witness over HTTP/1.1, and how long a request to it may take.
 #[derive(Clone, Copy, Debug, PartialEq, Eq)]
 pub struct LogHost<'t> {
-    /// The address of the log.
+    /// The address.
     pub url: Url<'t>,
-    /// The most time that getting a resource takes, without the look-up of the host's name.
+    /// The most time that a request takes, without the look-up of the host's name.
     pub limit: Duration,
 }
 
@@ -45,8 +45,8 @@ pub fn connect<H: Net<Stream = TcpStream> + Clock>(
     Err(why)
 }
 
-// Returns why a host gave no body after this fault, given whether its time was over.
-fn why_none(fault: HttpFault, is_late: bool) -> DeviceFault
+/// Returns why a host gave no body after this fault, given whether its time was over.
+pub(crate) fn why_none(fault: HttpFault, is_late: bool) -> DeviceFault
     ensures { result ≡ after_get is_late fault }
 {
     match fault {
@@ -64,31 +64,21 @@ fn why_none(fault: HttpFault, is_late: bool) -> DeviceFault
     }
 }
 
-// Reports whether `limit` has passed since `start`.
-fn is_late<H: Clock>(rt: &H, start: &Instant, limit: Duration) -> bool {
-    match start.elapsed(rt) {
-        Ok(elapsed) => elapsed >= limit,
-        Err(_) => false,
-    }
-}
-
-/// Returns the body that a host answers for a resource, over a connection of its own.
+/// Returns the body that a host answers for a resource, over the idle connection or a new one, which is kept if it
+/// stays open.
 pub(crate) fn body_of<H: Net<Stream = TcpStream> + Clock>(
     rt: &H,
     alloc: Global,
     host: &LogHost<'_>,
+    idle: &mut Option<TcpStream>,
     resource: &Resource,
 ) -> Result<Vec<u8>, DeviceFault>
     requires { IsResource resource.now }
     ensures { IfOk result (λ body.
         MayGive host.now.url.authority.now host.now.url.prefix.now resource.now body.items) }
 {
-    let start = Instant::now(rt)?;
-    let stream = connect(rt, &host.url, &start, host.limit)?;
-    let mut reader = Counted::new(Timed::new(rt, &stream, start, host.limit));
-    let mut writer = Counted::new(Timed::new(rt, &stream, start, host.limit));
-    match ask(alloc, &mut reader, &mut writer, &host.url, resource) {
+    match ask(rt, alloc, host, idle, resource) {
         Ok(body) => Ok(body),
-        Err(fault) => Err(why_none(fault, is_late(rt, &start, host.limit))),
+        Err(fault) => Err(fault.reason()),
     }
 }

@@ -8,20 +8,22 @@ use crate::host::{LogHost, body_of};
 use crate::lack::{Lack, LastLack, NamesLack};
 use crate::url::Url;
 use std::alloc::{Allocator, Global};
+use std::cell::RefCell;
 use std::marker::Model;
 use std::net::{Net, TcpStream};
 use std::time::{Clock, Duration};
 use tl_client::ResourceSource;
 use tl_tile::{Resource, SourceFault};
 
-/// The resources of a log over HTTP/1.1, each at its path under an address (C2SP tlog-tiles). Each request has a
-/// connection of its own. Contracts see the address.
+/// The resources of a log over HTTP/1.1, each at its path under an address (C2SP tlog-tiles). The connection is kept
+/// from one request to the next. Contracts see the address.
 #[derive(Drop)]
 pub struct HttpSource<'s, H: Net<Stream = TcpStream> + Clock> {
     rt: &'s H,
     alloc: Global,
     host: LogHost<'s>,
     last: LastLack,
+    idle: RefCell<Option<TcpStream>>,
 }
 
 impl<'s, H: Net<Stream = TcpStream> + Clock> Model for HttpSource<'s, H> {
@@ -43,6 +45,7 @@ impl<'s, H: Net<Stream = TcpStream> + Clock> HttpSource<'s, H> {
             alloc,
             host: LogHost { url, limit },
             last: LastLack::new(),
+            idle: RefCell::new(None),
         }
     }
 }
@@ -71,7 +74,9 @@ impl<H: Net<Stream = TcpStream> + Clock> ResourceSource for HttpSource<'_, H> {
     /// Returns the body that the host answers with status 200. `Unavailable` means that it answers otherwise, not in
     /// time, or with more bytes than `most_bytes`.
     fn get<A: Allocator>(&self, alloc: A, resource: &Resource) -> Result<Vec<u8, A>, SourceFault> {
-        let body = body_of(self.rt, self.alloc, &self.host, resource);
+        let mut idle = self.idle.try_take().unwrap_or(None);
+        let body = body_of(self.rt, self.alloc, &self.host, &mut idle, resource);
+        let _ = self.idle.try_replace(idle);
         let body = self.last.note(resource, body)?;
         Ok(Vec::from_slice(alloc, body.as_slice())?)
     }

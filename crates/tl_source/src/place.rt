@@ -9,7 +9,7 @@ use tl_folder::{has_path, path_under};
 use tl_tile::Resource;
 
 /// Returns a prefix without the slash that it may end with.
-pub(crate) fn front_of(prefix: &str) -> &str
+pub fn front_of(prefix: &str) -> &str
     ensures { IsFront prefix.now result.now }
 {
     match prefix.strip_suffix('/') {

@@ -4,17 +4,19 @@ ghost use Rattle.std.specs.Prelude.{◌≡◌, ◌↔◌, All, IsTrue, MatchOpti
 ghost use Rattle.tl_source.specs.Ahead.{IsAnswer};
 ghost use Rattle.tl_source.specs.Inner.Ahead.{IsGot};
 
-use crate::ahead::{AsksHost, Got, HostClient, Requests, answers_of};
+use crate::ahead::{Asked, AsksHost, Got, HostClient, Requests, answers_of};
 use std::alloc::{Allocator, Global};
 use std::marker::Model;
+use std::mem;
 use tl_client::ResourceSource;
 use tl_tile::{Resource, SourceFault};
 
-/// A source with what its host answered for some resources before they are needed. Contracts see the source.
+/// A source with what its host answered for some resources before they are needed, and the connections over which it
+/// did. Contracts see the source.
 #[derive(Drop)]
 pub struct Window<'s, S: AsksHost> {
     source: &'s S,
-    got: Vec<Option<Got>>,
+    asked: Vec<Asked>,
 }
 
 impl<'s, S: AsksHost> Model for Window<'s, S> {
@@ -22,7 +24,8 @@ impl<'s, S: AsksHost> Model for Window<'s, S> {
 
     ghost view = { λ w. w.source.now };
 
-    ghost invariant = { λ w. All (IsAnswer (S.may_answer w.source.now)) w.got.items };
+    ghost invariant = { λ w. All (λ asked. IsAnswer (S.may_answer w.source.now) asked.got)
+        w.asked.items };
 }
 
 impl<'s, S: AsksHost> Window<'s, S> {
@@ -32,17 +35,17 @@ impl<'s, S: AsksHost> Window<'s, S> {
     {
         Window {
             source,
-            got: Vec::new(alloc),
+            asked: Vec::new(alloc),
         }
     }
 
     /// Asks the host for the first of these resources, as many at once as `requests` says, and drops what was got
-    /// before. `get` asks again for what didn't come.
+    /// before. `get` asks again for what didn't come. The connections are kept for the next call.
     pub fn get_ahead<H: HostClient>(&mut self, requests: &Requests<'_, H>, wanted: &[Resource])
         ensures { self.new ≡ self.old }
     {
-        self.got.clear();
-        self.got = answers_of(requests, self.source, wanted);
+        let last = mem::replace(&mut self.asked, Vec::new(requests.alloc));
+        self.asked = answers_of(requests, self.source, wanted, last);
     }
 }
 
@@ -69,8 +72,8 @@ impl<'s, S: AsksHost> Window<'s, S> {
         ensures { MatchOption result (Unit {0})
             (λ bytes. S.may_answer self.now resource.now bytes.now) }
     {
-        for one in &self.got {
-            if let Some(bytes) = bytes_of(one, resource) {
+        for one in &self.asked {
+            if let Some(bytes) = bytes_of(&one.got, resource) {
                 return Some(bytes);
             }
         }

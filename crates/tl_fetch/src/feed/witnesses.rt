@@ -45,8 +45,8 @@ pub(crate) fn addresses(alloc: Global, texts: &[String]) -> Result<Vec<Url<'_>>,
     Ok(urls)
 }
 
-/// The witnesses at these addresses, each asked over a connection of its own within a time limit, and standard error,
-/// which gets a line for each that gave no cosignature.
+/// The witnesses at these addresses, each asked within a time limit, and standard error, which gets a line for each
+/// that gave no cosignature.
 #[derive(Drop)]
 pub(crate) struct HttpWitnesses<'w, H, E> {
     pub(crate) rt: &'w H,
@@ -79,12 +79,7 @@ impl<'w, H: Net<Stream = TcpStream> + Clock, E: Write> AsksWitnesses for HttpWit
         let Some(url) = self.urls.get(place) else {
             return None;
         };
-        Some(HttpWitness {
-            rt: self.rt,
-            alloc: self.alloc,
-            url: *url,
-            limit: self.limit,
-        })
+        Some(HttpWitness::new(self.rt, self.alloc, *url, self.limit))
     }
 
     fn tell(&mut self, place: usize, why: Unasked) {

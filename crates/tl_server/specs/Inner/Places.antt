@@ -1,6 +1,8 @@
 -- The steps of finding an entry at the index that was reported.
 use Rattle.std.specs.Prelude.{◌≡◌, ◌⊎◌, ℕ, ◌%◌, List, Option, Some, None, slice_get, vec_items}
 use Rattle.tl_hash.specs.Bytes.{Bytes}
+use Rattle.tl_tile.specs.declared.resource.Resource.{Resource}
+use Rattle.tl_tile.specs.declared.resource.Resource.TheVariants as resource
 use Rattle.tl_tile.specs.Bundle.{bundle_text, AreEntries, IsBundle}
 use Rattle.tl_server.specs.Adding.{Course, Reply, Misplace, HasOther, bundle_answer, index_answer}
 use Rattle.tl_server.specs.Answer.{Answer, bare}
@@ -25,6 +27,10 @@ FindsNone bytes width place = ¬ IsBundle bytes width ⊎ Finds bytes width plac
 -- the bytes aren't a bundle of `width` entries, or it has another entry or none at the place
 abbrev pub LacksIt : Bytes → ℕ → ℕ → Bytes → Type 0
 LacksIt bytes width place entry = ¬ IsBundle bytes width ⊎ HasOther bytes width place entry
+
+-- reading the bundle with this index and width gave this answer
+abbrev pub ReadsBundle : (Resource → Answer → Type 0) → ℕ → ℕ → Answer → Type 0
+ReadsBundle Gives bundle width a = Gives (resource.Entries bundle width) a
 
 -- the result of looking for a bundle; Looks says what it may give, by the width that was read last
 abbrev pub IsLooked : {A : Type 0} → (ℕ → Answer → Type 0) → Looked A → Type 0

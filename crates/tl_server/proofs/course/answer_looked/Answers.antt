@@ -10,7 +10,7 @@ use Rattle.tl_server.proofs.course.answer_looked.Goals as goal
 pub returns-in-Failed : goal.returns-in-Failed
 returns-in-Failed g c = record {
   course = Reply (bare 500);
-  decided = looked_as c.args.index c.args.entry.now c.args.looked looked.Failed (Reply (bare 500)) c.in-Failed.is refl;
+  decided = looked_as c.args.index c.args.entry.now c.args.looked.now looked.Failed (Reply (bare 500)) c.in-Failed.is refl;
   takes = sent_takes (bare 500) _ c.refuse.result c.outcome_of.result c.refuse.ensures c.outcome_of.ensures;
 }
 
@@ -21,6 +21,6 @@ returns-then-has_entry g c =
     subst (λ (l : List ℕ). HasEntry l c.in-Bytes.width (index % 256) c.args.entry.now) c.as_slice.ensures.value c.if-has_entry.ensures in
     record {
       course = Reply (index_answer index);
-      decided = looked_as index c.args.entry.now c.args.looked (looked.Bytes c.in-Bytes.bytes c.in-Bytes.width) (Reply (index_answer index)) c.in-Bytes.is (inl (has, refl));
+      decided = looked_as index c.args.entry.now c.args.looked.now (looked.Bytes c.in-Bytes.bytes c.in-Bytes.width) (Reply (index_answer index)) c.in-Bytes.is (inl (has, refl));
       takes = c.answer_index.ensures;
     }
