@@ -13,7 +13,7 @@ class Linger:
     `keep`: an answer, and the next request;  `shut`: an answer after which the connection is closed, unannounced;
     `say`: an answer that announces the close, which never comes;  `old`: an answer over HTTP/1.0, and no close;
     `drop`: no byte, and a close;  `reset`: no byte, and a reset;  `cut`: an answer without its last byte;
-    `begin`: the first byte of an answer, and a close.
+    `begin`: the first byte of an answer, and a close;  `over`: 408, as of a host that waited too long, and a close.
     Beside the requests' targets (`asked`) it keeps how many requests each connection carried (`links`)."""
 
     def __init__(self, answers, turn=lambda link, number: 'keep'):
@@ -67,6 +67,9 @@ class Linger:
         if what == 'reset':
             link.setsockopt(socket.SOL_SOCKET, socket.SO_LINGER, struct.pack('ii', 1, 0))
         if what in ('drop', 'reset'):
+            return False
+        if what == 'over':
+            link.sendall(b'HTTP/1.1 408 Request Timeout\r\nContent-Length: 0\r\nConnection: close\r\n\r\n')
             return False
         status, fields, body = ('404 Not Found', '', b'') if body is None else body if isinstance(body, tuple) else ('200 OK', '', body)
         version, close = 'HTTP/1.0' if what == 'old' else 'HTTP/1.1', 'Connection: close\r\n' if what == 'say' else ''

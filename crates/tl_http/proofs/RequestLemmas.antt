@@ -37,16 +37,15 @@ post_in_pieces host target body =
 put_on : (old grown begun piece : List ℕ) → old ≡ begun → grown ≡ old ++ piece → grown ≡ begun ++ piece
 put_on old grown begun piece is put = put ∙ ap (λ (l : List ℕ). l ++ piece) is
 
--- eight texts were appended to none
-pub eight_pieces : (none i j k l m n o p a b c d e f g h : List ℕ)
-    → none ≡ [] → i ≡ none ++ a → j ≡ i ++ b → k ≡ j ++ c → l ≡ k ++ d → m ≡ l ++ e → n ≡ m ++ f → o ≡ n ++ g → p ≡ o ++ h
-    → p ≡ ((((((a ++ b) ++ c) ++ d) ++ e) ++ f) ++ g) ++ h
-eight_pieces none i j k l m n o p a b c d e f g h empty is js ks ls ms ns os ps =
+-- seven texts were appended to none
+pub seven_pieces : (none i j k l m n o a b c d e f g : List ℕ)
+    → none ≡ [] → i ≡ none ++ a → j ≡ i ++ b → k ≡ j ++ c → l ≡ k ++ d → m ≡ l ++ e → n ≡ m ++ f → o ≡ n ++ g
+    → o ≡ (((((a ++ b) ++ c) ++ d) ++ e) ++ f) ++ g
+seven_pieces none i j k l m n o a b c d e f g empty is js ks ls ms ns os =
     let one = put_on none i [] a empty is in
     let two = put_on i j a b one js in
     let three = put_on j k (a ++ b) c two ks in
     let four = put_on k l ((a ++ b) ++ c) d three ls in
     let five = put_on l m (((a ++ b) ++ c) ++ d) e four ms in
     let six = put_on m n ((((a ++ b) ++ c) ++ d) ++ e) f five ns in
-    let seven = put_on n o (((((a ++ b) ++ c) ++ d) ++ e) ++ f) g six os in
-    put_on o p ((((((a ++ b) ++ c) ++ d) ++ e) ++ f) ++ g) h seven ps
+    put_on n o (((((a ++ b) ++ c) ++ d) ++ e) ++ f) g six os

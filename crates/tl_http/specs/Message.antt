@@ -1,5 +1,5 @@
 -- A request with the caller's own fields (RFC 9110, sections 5.5, 5.6.2 and 9.3; RFC 9112, sections 2.1, 3 and 6).
-use Rattle.std.specs.Prelude.{◌≡◌, ◌≢◌, ◌⊎◌, ◌++◌, Bool, true, false, List, [], ◌∷◌, IsTrue, codes, decimal, length, map, nat_le, if◌then◌else◌}
+use Rattle.std.specs.Prelude.{◌≡◌, ◌≢◌, ◌⊎◌, ◌++◌, ◌==◌, ◌&&◌, Bool, true, false, List, [], ◌∷◌, IsTrue, bytes_eq, codes, decimal, length, map, nat_le, if◌then◌else◌}
 use Rattle.std.specs.List.{AllByRecursion, flat_map}
 use Rattle.httparse.specs.Grammar.{is_ows, is_token}
 use Rattle.tl_hash.specs.Bytes.{Bytes}
@@ -69,11 +69,17 @@ pub record IsSendable (m : Sent) : Type 0 where
 abbrev pub field_text : Bytes × Bytes → Bytes
 field_text field = field.0 ++ codes ": " ++ field.1 ++ codes "\r\n"
 
--- the head as it is sent: the caller's fields, and behind them the length of the body in decimal
+-- the line that says how long the body is, in decimal; a GET without a body has none (RFC 9110, section 8.6)
+abbrev pub length_text : Bytes → Bytes → Bytes
+length_text method body =
+    if bytes_eq method (codes "GET") && length body == 0 then []
+    else codes "content-length: " ++ decimal (length body) ++ codes "\r\n"
+
+-- the head as it is sent: the caller's fields, and behind them the length of the body
 unfoldable pub sent_head : Sent → Bytes
 sent_head m =
     m.method ++ codes " " ++ m.target ++ codes " HTTP/1.1\r\n" ++ flat_map field_text m.fields
-    ++ codes "content-length: " ++ decimal (length m.body) ++ codes "\r\n\r\n"
+    ++ length_text m.method m.body ++ codes "\r\n"
 
 -- the whole request as it is sent; no field asks to close the connection
 abbrev pub sent_text : Sent → Bytes

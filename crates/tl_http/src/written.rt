@@ -3,7 +3,7 @@
 ghost use Rattle.std.specs.Prelude.{◌≡◌, ◌++◌, IfOk, OnOk, OnErr, map};
 ghost use Rattle.std.specs.List.{flat_map};
 ghost use Rattle.tl_device.specs.Device.{passage, WroteWhole, WrotePart};
-ghost use Rattle.tl_http.specs.Message.{field_of, field_text, sent, sent_head};
+ghost use Rattle.tl_http.specs.Message.{field_of, field_text, length_text, sent, sent_head};
 
 use crate::message::{FieldLine, Message};
 use itoa::Buffer;
@@ -42,6 +42,23 @@ fn push_fields<A: Allocator>(
     Ok(())
 }
 
+// Appends the line that says how long a body is, if the request has one.
+fn push_length<A: Allocator>(
+    out: &mut Vec<u8, A>,
+    method: &str,
+    body: &[u8],
+) -> Result<(), AllocError>
+    ensures pushed { OnOk result
+        (out.new.items ≡ out.old.items ++ length_text method.now body.now) }
+{
+    if method == "GET" && body.is_empty() {
+        return Ok(());
+    }
+    push(out, "content-length: ")?;
+    push(out, Buffer::new().format(body.len()))?;
+    push(out, "\r\n")
+}
+
 /// Returns the head of a request. It fails only when allocation fails.
 #[tactic(auto, unfolding(crate::specs::Message::sent_head))]
 pub(crate) fn head_of<A: Allocator>(
@@ -56,9 +73,8 @@ pub(crate) fn head_of<A: Allocator>(
     push(&mut head, message.target)?;
     push(&mut head, " HTTP/1.1\r\n")?;
     push_fields(&mut head, message.fields)?;
-    push(&mut head, "content-length: ")?;
-    push(&mut head, Buffer::new().format(message.body.len()))?;
-    push(&mut head, "\r\n\r\n")?;
+    push_length(&mut head, message.method, message.body)?;
+    push(&mut head, "\r\n")?;
     Ok(head)
 }
 

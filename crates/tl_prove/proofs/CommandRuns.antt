@@ -21,7 +21,7 @@ use Rattle.tl_prove.specs.Entry.{IsGiven}
 use Rattle.tl_prove.specs.Inner.Proving.{OpensSource, checkpoint_of, head_of}
 use Rattle.tl_prove.specs.Prove.{RefusesLeaf}
 use Rattle.tl_prove.specs.ProveCommand.{HasExtra, IsBadAddress, IsRequested, IsShownAs, ProvesBy, ProvesFor, RunsProve, source_answers}
-use Rattle.tl_prove.specs.SubmitCommand.{IsUrlOf, MayTake, RefusesTaken, RunsSubmit, Submits, host_answers}
+use Rattle.tl_prove.specs.SubmitCommand.{IsProofOf, IsUrlOf, MayTake, RefusesTaken, RunsSubmit, Submits, host_answers}
 use Rattle.tl_prove.specs.declared.fault.ProveFault.{ProveFault}
 use Rattle.tl_prove.specs.declared.fault.ProveFault.TheVariants as flaw
 use Rattle.tl_prove.specs.declared.options.ProveOptions.{ProveOptions}
@@ -95,6 +95,13 @@ by_host at url p entry extra index fault shown is takes refused told =
       refused = subst (λ (u : Url). RefusesTaken (host_answers u) (λ r. Unit {0}) p entry index fault) is refused;
       shown_as = told;
     })
+
+-- a proof of what the log took, by the address that the source has
+pub by_host_too : (at url : Url) (p : Terms) (entry : Bytes) (extra : Option Bytes) (index : ℕ) (text : Bytes) → at ≡ url → MayTake url entry index
+    → IsProofOf (host_answers at) p entry index extra text
+    → Submits url p entry extra (Ok text)
+by_host_too at url p entry extra index text is takes proof =
+    (index, takes, subst (λ (u : Url). IsProofOf (host_answers u) p entry index extra text) is proof)
 
 -- the address of the options
 pub url_of : (to text : Bytes) (url : Url) → text ≡ to → IsUrlOf text url → IsUrlOf to url

@@ -2,6 +2,7 @@
 use Rattle.std.proofs.Common.{◌≡◌, ℕ, List, Option, Result, Ok, Err, sym, ap, subst, ◌∙◌, inl, inr}
 use Rattle.sha2.specs.Sha256.{sha256}
 use Rattle.tl_hash.specs.Bytes.{Bytes}
+use Rattle.tl_hash.specs.Tree.{leaf_input}
 use Rattle.tl_hash.specs.declared.head.Head.{Head}
 use Rattle.tl_tile.specs.declared.resource.Resource.{Resource}
 use Rattle.tl_tile.specs.declared.resource.Resource.TheVariants.{Checkpoint}
@@ -17,6 +18,7 @@ use Rattle.tl_policy.specs.Trust.{IsTrusted}
 use Rattle.tl_prove.specs.Prove.{FailsUnder, IsFound, IsOpened, IsProofFor, Proves, RefusesFinding, RefusesLeaf, RefusesProving, tree_of}
 use Rattle.tl_prove.specs.declared.fault.ProveFault.{ProveFault}
 use Rattle.tl_prove.specs.declared.proving.Wanted.{Wanted}
+use Rattle.tl_prove.specs.SubmitCommand.{IsProofOf}
 use Rattle.tl_prove.specs.Verify.{IsAccepted}
 
 -- there is no proof of a leaf hash
@@ -43,6 +45,20 @@ module _ (answers : Resource → Bytes → Type 0) (lacks : Resource → Type 0)
     accepted = accepted_by index leaf extra text made.0 made.1;
     answered = subst (λ (n : Bytes). answers Checkpoint n) (sym made.1.note_is) opened.answered;
     found = subst (λ (n : ℕ). IsFound (tree_of c) wanted n leaf) (sym made.1.index_is) (subst (λ (t : Head). IsFound t wanted index leaf) same found);
+    extra_is = made.1.extra_is;
+  }
+
+  -- a proof of an entry that the log took
+  pub taken : (entry : Bytes) (index : ℕ) (leaf : Bytes) (extra : Option Bytes) (text : Bytes) → leaf ≡ sha256 (leaf_input entry)
+      → ((proof : TlogProof) × IsProofFor (tree_of c) note index leaf extra text proof) → IsProofOf answers p entry index extra text
+  taken entry index leaf extra text is made = record {
+    proof = made.0;
+    c = c;
+    log = log;
+    times = times;
+    accepted = subst (λ (l : Bytes). IsAccepted p text l made.0 c log times) is (accepted_by index leaf extra text made.0 made.1);
+    answered = subst (λ (n : Bytes). answers Checkpoint n) (sym made.1.note_is) opened.answered;
+    index_is = made.1.index_is;
     extra_is = made.1.extra_is;
   }
 

@@ -5,6 +5,7 @@ use Rattle.tl_hash.specs.Bytes.{Bytes}
 use Rattle.tl_hash.specs.Tree.{leaf_input}
 use Rattle.tl_text.specs.Text.{number_text}
 use Rattle.tl_tile.specs.declared.resource.Resource.{Resource}
+use Rattle.tl_tile.specs.declared.resource.Resource.TheVariants.{Checkpoint}
 use Rattle.tl_checkpoint.specs.Checkpoint as checkpoint
 use Rattle.tl_device.specs.Device.{Passage, IsUnwritten, WroteWhole}
 use Rattle.tl_http.specs.Exchange.{Sought}
@@ -77,13 +78,17 @@ pub record IsTooSmall (answers : Resource → Bytes → Type 0) (p : Terms) (ind
 abbrev pub RefusesLook : (Resource → Bytes → Type 0) → (Resource → Type 0) → Terms → ℕ → ProveFault → Type 0
 RefusesLook answers lacks p index fault = RefusesSource answers lacks p fault ⊎ ((fault ≡ TooLate) × IsTooSmall answers p index)
 
--- The text is a proof of the entry that the policy accepts, with these extra data.
-pub record IsProofOf (p : Terms) (entry : Bytes) (extra : Option Bytes) (text : Bytes) : Type 0 where
+-- The text is a proof, which the policy accepts, that the entry has this index under a checkpoint that the source may
+-- answer, with these extra data.
+pub record IsProofOf
+    (answers : Resource → Bytes → Type 0) (p : Terms) (entry : Bytes) (index : ℕ) (extra : Option Bytes) (text : Bytes) : Type 0 where
   pub proof : TlogProof
   pub c : checkpoint.Head
   pub log : ℕ
   pub times : List (Option ℕ)
   pub accepted : IsAccepted p text (sha256 (leaf_input entry)) proof c log times
+  pub answered : answers Checkpoint proof.note
+  pub index_is : proof.index ≡ index
   pub extra_is : proof.extra ≡ extra
 
 -- There is no proof of the entry, with the index that the log answered, under a checkpoint that the policy trusts.
@@ -103,7 +108,7 @@ RefusesTaken answers lacks p entry index fault =
 -- a proof of an entry that the log took with this index, or why there is none
 abbrev pub ProvesTaken
     : (Resource → Bytes → Type 0) → (Resource → Type 0) → Terms → Bytes → ℕ → Option Bytes → Result Bytes ProveFault → Type 0
-ProvesTaken answers lacks p entry index extra (Ok text) = IsProofOf p entry extra text
+ProvesTaken answers lacks p entry index extra (Ok text) = IsProofOf answers p entry index extra text
 ProvesTaken answers lacks p entry index extra (Err fault) = RefusesTaken answers lacks p entry index fault
 
 -- the log took the entry, and there is no proof of it
@@ -116,7 +121,8 @@ pub record IsTakenUnproved (url : Url) (p : Terms) (entry : Bytes) (shown : Prov
 
 -- posting the entry, and a proof of it once the log took it, or why there is none
 abbrev pub Submits : Url → Terms → Bytes → Option Bytes → Result Bytes ProveFault → Type 0
-Submits url p entry extra (Ok text) = ((index : ℕ) × MayTake url entry index) × IsProofOf p entry extra text
+Submits url p entry extra (Ok text) =
+    (index : ℕ) × MayTake url entry index × IsProofOf (host_answers url) p entry index extra text
 Submits url p entry extra (Err shown) = IsNotTaken shown ⊎ IsTakenUnproved url p entry shown
 
 -- the texts of an address

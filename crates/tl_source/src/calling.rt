@@ -82,9 +82,16 @@ fn call_over<H: Clock>(
     }
 }
 
-// Reports whether a kept connection was closed before a byte of an answer came.
+// Reports whether a kept connection was closed before a byte of an answer came, or the host said that it had waited
+// too long for a request (RFC 9110, section 15.5.9).
 fn was_closed(tried: &Tried) -> bool {
     match &tried.outcome {
+        Err(
+            CallFault::Failed {
+                fault: HttpFault::Status(408),
+                is_late: _,
+            },
+        ) => true,
         Err(
             CallFault::Failed {
                 fault: HttpFault::Read | HttpFault::Write | HttpFault::NoHead,
@@ -145,8 +152,8 @@ fn call_anew<H: Net<Stream = TcpStream> + Clock>(
 
 /// Sends a request to a host over the idle connection, or over a new one if there is none, and returns the response.
 /// The connection is kept as the idle one if it can carry another request. If an idle one was closed before a byte of
-/// an answer came, the request is sent once more, over a new one: one that mustn't be made twice is sent with `idle`
-/// empty. All of it takes at most the host's limit, without the look-up of its name.
+/// an answer came, or is answered 408, the request is sent once more, over a new one: one that mustn't be made twice is
+/// sent with `idle` empty. All of it takes at most the host's limit, without the look-up of its name.
 pub fn call<H: Net<Stream = TcpStream> + Clock>(
     rt: &H,
     alloc: Global,
